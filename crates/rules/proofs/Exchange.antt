@@ -1,0 +1,46 @@
+-- The exchange that document 01 prints: what the definitions answer is what it prints.
+use mathlib.Core.Path.{_≡_, refl}
+use mathlib.Core.List.{List, [], _∷_, _++_}
+use lib.ListN.{length, replicate}
+use Rattle.rules.specs.Base.{Bytes, ascii}
+use Rattle.rules.specs.Response.{response}
+use Rattle.rules.specs.Answers.{Outcome, outcome, answer, buffer}
+use Rattle.rules.proofs.Open.{everything}
+use Prim.Native.Nat.{ℕ}
+
+pub received : Bytes
+received =
+    ascii "ISA*00*          *00*          *ZZ*CARRIERA       *ZZ*BROKERB        *240315*0915*U*00601*000000042*0*T*>~"
+    ++ ascii "GS*GF*CARRA*BROKB*20240315*0915*42*X*006010~"
+    ++ ascii "ST*990*0001~B1*ABCD*L100*20240315*A~SE*3*0001~"
+    ++ ascii "ST*990*0002~B1*ABCDE*L101*20241315*Q~L11**CN~SE*3*0002~"
+    ++ ascii "GE*2*42~IEA*1*000000042~"
+
+pub sent : Bytes
+sent =
+    ascii "ISA*00*          *00*          *ZZ*BROKERB        *ZZ*CARRIERA       *240315*0930*U*00401*000000077*0*T*>~"
+    ++ ascii "GS*FA*BROKB*CARRA*20240315*0930*77*X*004010~"
+    ++ ascii "ST*997*0001~AK1*GF*42~AK2*990*0001~AK5*A~"
+    ++ ascii "AK2*990*0002~AK3*B1*2**8~AK4*1*140*5~AK4*3*373*8~AK4*4*558*7~"
+    ++ ascii "AK3*L11*3**8~AK4*1*127*2~AK5*R*4*5~"
+    ++ ascii "AK9*P*2*2*1~SE*14*0001~GE*1*77~IEA*1*000000077~"
+
+-- the outcome of the printed call on a buffer of so many bytes 7
+unfoldable pub exchange : ℕ → Outcome
+exchange room =
+    let a = answer received room 20240315 930 77 in
+    outcome a (buffer a (response received 20240315 930 77) (replicate room 7))
+
+-- the response has 334 bytes: in a longer buffer the rest is as lent
+pub answered : exchange 400 ≡ record { number = 0; size = 334; buffer = sent ++ replicate 66 7 }
+unfolding everything exchange received sent
+answered = refl
+
+pub fits-exactly : exchange 334 ≡ record { number = 0; size = 334; buffer = sent }
+unfolding everything exchange received sent
+fits-exactly = refl
+
+-- one byte too short: the length needed, and the buffer as lent
+pub too-short : exchange 333 ≡ record { number = 14; size = 334; buffer = replicate 333 7 }
+unfolding everything exchange received sent
+too-short = refl

@@ -1,0 +1,11 @@
+pub mod Base
+pub mod Cutting
+pub mod Numbers
+pub mod Tables
+pub mod Elements
+pub mod Segments
+pub mod Sets
+pub mod Groups
+pub mod Refusals
+pub mod Response
+pub mod Answers

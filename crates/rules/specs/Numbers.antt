@@ -1,0 +1,54 @@
+-- Digits and numbers, the declared counts, and the rules DT and TM.
+use Prim.Native.Nat.{ℕ, zero, suc, _+_, _-_, _*_, _/_, _%_}
+use mathlib.Core.Bool.{Bool, true, false, _&&_, _||_}
+use mathlib.Core.List.{List, [], _∷_, _++_}
+use lib.Dec.{leb, ltb, eqb}
+use lib.ListN.{length, take, drop}
+use Rattle.rules.specs.Base.{Bytes, if_then_else_, between, isDigit, all}
+
+-- lo to hi digits and nothing else
+unfoldable pub digits : ℕ → ℕ → Bytes → Bool
+digits lo hi bs = between lo hi (length bs) && all isDigit bs
+
+-- the number that digits stand for, after the number n to their left
+unfoldable pub valueFrom : ℕ → Bytes → ℕ
+valueFrom n [] = n
+valueFrom n (b ∷ bs) = valueFrom (n * 10 + (b - 48)) bs
+
+unfoldable pub value : Bytes → ℕ
+value = valueFrom 0
+
+-- at most hi digits, one at least, whose value is n: how SE01, GE01 and IEA01 declare a count
+unfoldable pub declares : ℕ → Bytes → ℕ → Bool
+declares hi bs n = digits 1 hi bs && eqb (value bs) n
+
+-- the last w digits of n
+unfoldable pub padded : ℕ → ℕ → Bytes
+padded zero n = []
+padded (suc w) n = padded w (n / 10) ++ (48 + n % 10) ∷ []
+
+-- the digits of n without leading zeros, at most f + 1 of them
+unfoldable pub digitsOf : ℕ → ℕ → Bytes
+digitsOf zero n = (48 + n % 10) ∷ []
+digitsOf (suc f) n = let left = digitsOf f (n / 10) in if ltb n 10 then (48 + n) ∷ [] else left ++ (48 + n % 10) ∷ []
+
+-- n without leading zeros; 64 bits have at most twenty digits
+unfoldable pub decimal : ℕ → Bytes
+decimal = digitsOf 19
+
+-- CCYYMMDD as a number: month 01 to 12, day 01 to 31
+unfoldable pub isDay : ℕ → Bool
+isDay n = between 1 12 (n / 100 % 100) && between 1 31 (n % 100)
+
+-- rule DT: eight digits that are a day
+unfoldable pub isDate : Bytes → Bool
+isDate bs = digits 8 8 bs && isDay (value bs)
+
+-- the two digits at i, as a number; 0 past the end
+unfoldable pub two : ℕ → Bytes → ℕ
+two i bs = value (take 2 (drop i bs))
+
+-- rule TM: HHMM, HHMMSS, and one or two digits more
+unfoldable pub isTime : Bytes → Bool
+isTime bs =
+    (digits 4 4 bs || digits 6 8 bs) && leb (two 0 bs) 23 && leb (two 2 bs) 59 && leb (two 4 bs) 59

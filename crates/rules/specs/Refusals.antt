@@ -1,0 +1,120 @@
+-- "Refusal numbers, in the order of checking": 1 to 13, as blocks of rules under one `first`.
+use Prim.Native.Nat.{ℕ, _/_, _%_}
+use mathlib.Core.Bool.{Bool, true, false, _&&_, _||_, not}
+use mathlib.Core.List.{List, [], _∷_, _++_}
+use lib.Dec.{leb, eqb}
+use lib.ListN.{length, take, getD}
+use Rattle.rules.specs.Base.{Bytes, Rule, _⇒_, first, null, all, any, between, isDigit, isUpper, isLower, ascii, same, member, last}
+use Rattle.rules.specs.Cutting.{Segment, field, isNamed, delimiters, marks, separators, valid, text, isa, segments}
+use Rattle.rules.specs.Numbers.{digits, declares, isDay, isDate, isTime}
+use Rattle.rules.specs.Sets.{Set, stray}
+use Rattle.rules.specs.Groups.{Group, groupOf, sets}
+use Rattle.rules.specs.declared.Delimiters.{Delimiters}
+
+-- 1: the caller's numbers
+unfoldable pub goodCall : ℕ → ℕ → ℕ → Bool
+goodCall date time control =
+    (leb date 99991231 && isDay date) && (leb (time / 100) 23 && leb (time % 100) 59) && between 1 999999999 control
+
+unfoldable pub callRules : ℕ → ℕ → ℕ → List Rule
+callRules date time control = (not (goodCall date time control) ⇒ 1) ∷ []
+
+-- 3: ISA, and a separator at each of its places
+unfoldable pub framed : Bytes → Bool
+framed i = same (take 3 i) (ascii "ISA") && all (λ at. eqb (getD i at 0) (getD i 3 0)) separators
+
+-- 4: no letter, digit or space, and no two the same
+abbrev pub plain : ℕ → Bool
+plain b = not (isUpper b || isLower b || isDigit b || eqb b 32)
+
+unfoldable pub distinct : List ℕ → Bool
+distinct [] = true
+distinct (b ∷ bs) = not (any (eqb b) bs) && distinct bs
+
+unfoldable pub goodMarks : List ℕ → Bool
+goodMarks bs = distinct bs && all plain bs
+
+-- 5: the fields of ISA
+unfoldable pub goodISA : Delimiters → Segment → Bool
+goodISA d s =
+    all (all (valid d)) s && digits 9 9 (field s 13) && member (field s 15) (ascii "P" ∷ ascii "T" ∷ ascii "I" ∷ [])
+
+-- 2 to 5: the length, and the 106 bytes of ISA
+unfoldable pub headRules : Bytes → List Rule
+headRules i =
+    (not (between 106 65536 (length i)) ⇒ 2) ∷
+    (not (framed i) ⇒ 3) ∷
+    (not (goodMarks (marks (delimiters i))) ⇒ 4) ∷
+    (not (goodISA (delimiters i) (isa i)) ⇒ 5) ∷
+    []
+
+-- 6: the last byte ends a segment
+unfoldable pub endRules : Bytes → List Rule
+endRules i = (not (eqb (last 0 i) (delimiters i .terminator)) ⇒ 6) ∷ []
+
+-- 7: ISA, GS, GE and IEA stand first, second, next to last and last, and nowhere else
+abbrev pub isEnvelope : Segment → Bool
+isEnvelope s = member (field s 0) (ascii "ISA" ∷ ascii "GS" ∷ ascii "GE" ∷ ascii "IEA" ∷ [])
+
+unfoldable pub enveloped : List Segment → Bool
+enveloped ss =
+    isNamed (ascii "GS") (getD ss 1 []) && isNamed (ascii "IEA") (last [] ss)
+    && all (λ s. not (isEnvelope s)) (groupOf ss .body)
+
+unfoldable pub envelopeRules : List Segment → List Rule
+envelopeRules ss = (not (enveloped ss) ⇒ 7) ∷ []
+
+-- 8: IEA has two elements, counts n groups, and names this interchange
+abbrev pub hasTwo : Segment → Bool
+hasTwo iea = eqb (length iea) 3
+
+abbrev pub countsGroups : ℕ → Segment → Bool
+countsGroups n iea = declares 5 (field iea 1) n
+
+abbrev pub closes : Segment → Bytes → Bool
+closes iea isa13 = same (field iea 2) isa13
+
+unfoldable pub trailerRules : Segment → ℕ → Bytes → List Rule
+trailerRules iea n isa13 = (not (hasTwo iea && countsGroups n iea && closes iea isa13) ⇒ 8) ∷ []
+
+-- 9: the GS rule
+unfoldable pub goodGS : Delimiters → Segment → Bool
+goodGS d s =
+    eqb (length s) 9
+    && eqb (length (field s 1)) 2 && all (λ b. isUpper b || isDigit b) (field s 1)
+    && text d 2 15 (field s 2) && text d 2 15 (field s 3)
+    && isDate (field s 4) && isTime (field s 5) && digits 1 9 (field s 6)
+    && text d 1 2 (field s 7) && text d 1 12 (field s 8)
+
+unfoldable pub groupRules : Delimiters → Group → List Rule
+groupRules d g = (not (goodGS d (g .header)) ⇒ 9) ∷ []
+
+-- 10: acknowledgments are not acknowledged
+unfoldable pub answerRules : Group → List Rule
+answerRules g = (same (field (g .header) 1) (ascii "FA") ⇒ 10) ∷ []
+
+-- 13: the header of a set can be answered
+unfoldable pub goodST : Delimiters → Segment → Bool
+goodST d st = digits 3 3 (field st 1) && text d 4 9 (field st 2)
+
+-- 11 to 13: the sets of the group
+unfoldable pub setRules : Delimiters → Group → List Rule
+setRules d g =
+    (stray false (g .body) ⇒ 11) ∷
+    (null (sets g) ⇒ 12) ∷
+    (not (all (λ s. goodST d (s .header)) (sets g)) ⇒ 13) ∷
+    []
+
+-- all of them, in the order of checking
+unfoldable pub refusalRules : Bytes → ℕ → ℕ → ℕ → List Rule
+refusalRules i date time control =
+    let d = delimiters i in
+    let ss = segments d i in
+    let g = groupOf ss in
+    callRules date time control ++ headRules i ++ endRules i
+    ++ envelopeRules ss ++ trailerRules (last [] ss) 1 (field (isa i) 13)
+    ++ groupRules d g ++ answerRules g ++ setRules d g
+
+-- the number of the refusal, 0 for none of 1 to 13
+unfoldable pub refusal : Bytes → ℕ → ℕ → ℕ → ℕ
+refusal i date time control = first (refusalRules i date time control)

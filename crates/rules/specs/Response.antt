@@ -1,0 +1,107 @@
+-- "The response": the segments of the 997 as a function of the group's report, the envelope around it, and their bytes.
+use Prim.Native.Nat.{ℕ, _+_}
+use mathlib.Core.Bool.{Bool, true, false}
+use mathlib.Core.List.{List, [], _∷_, _++_, map}
+use lib.Dec.{eqb}
+use lib.ListN.{length}
+use Rattle.rules.specs.Base.{Bytes, ascii, null, if_then_else_}
+use Rattle.rules.specs.Cutting.{Segment, field, delimiters, isa, segments}
+use Rattle.rules.specs.Numbers.{padded, decimal}
+use Rattle.rules.specs.Segments.{Note}
+use Rattle.rules.specs.Sets.{SetReport, accepted}
+use Rattle.rules.specs.Groups.{Group, groupOf, GroupReport, groupReport}
+use Rattle.rules.specs.declared.Delimiters.{Delimiters}
+use Rattle.rules.specs.declared.Finding.{Finding}
+
+-- 1. Segments into bytes.
+-- each field after a separator
+unfoldable pub fieldsOut : Delimiters → Segment → Bytes
+fieldsOut d [] = []
+fieldsOut d (f ∷ fs) = d .element ∷ (f ++ fieldsOut d fs)
+
+-- the id, the elements and the terminator
+abbrev pub segmentOut : Delimiters → Segment → Bytes
+segmentOut d [] = []
+segmentOut d (id ∷ fs) = id ++ fieldsOut d fs ++ d .terminator ∷ []
+
+unfoldable pub out : Delimiters → List Segment → Bytes
+out d [] = []
+out d (s ∷ ss) = segmentOut d s ++ out d ss
+
+-- 2. The block of a set, AK2 to AK5.
+-- place, reference number (nothing where there is none) and code
+unfoldable pub ak4 : Finding → Segment
+ak4 f =
+    ascii "AK4" ∷ decimal (f .place) ∷ (if eqb (f .reference) 0 then [] else decimal (f .reference))
+    ∷ decimal (f .code) ∷ []
+
+-- id, position, nothing, codes; and the AK4 under it
+unfoldable pub ak3 : Note → List Segment
+ak3 n = (ascii "AK3" ∷ n .id ∷ decimal (n .position) ∷ [] ∷ map decimal (n .codes)) ∷ map ak4 (n .findings)
+
+unfoldable pub ak3s : List Note → List Segment
+ak3s [] = []
+ak3s (n ∷ ns) = ak3 n ++ ak3s ns
+
+unfoldable pub ak2 : SetReport → Segment
+ak2 r = ascii "AK2" ∷ r .st01 ∷ r .st02 ∷ []
+
+unfoldable pub ak5 : SetReport → Segment
+ak5 r = ascii "AK5" ∷ (if accepted r then ascii "A" else ascii "R") ∷ map decimal (r .codes)
+
+unfoldable pub block : SetReport → List Segment
+block r = ak2 r ∷ (ak3s (r .notes) ++ ak5 r ∷ [])
+
+unfoldable pub blocks : List SetReport → List Segment
+blocks [] = []
+blocks (r ∷ rs) = block r ++ blocks rs
+
+-- 3. The transaction set, ST to SE, with its ST02.
+unfoldable pub ak1 : GroupReport → Segment
+ak1 g = ascii "AK1" ∷ g .gs01 ∷ g .gs06 ∷ []
+
+unfoldable pub ak9 : GroupReport → Segment
+ak9 g =
+    ascii "AK9" ∷ g .verdict ∷ decimal (g .declared) ∷ decimal (g .received) ∷ decimal (g .allowed)
+    ∷ map decimal (g .codes)
+
+-- from ST to AK9
+unfoldable pub told : Bytes → GroupReport → List Segment
+told st02 g = (ascii "ST" ∷ ascii "997" ∷ st02 ∷ []) ∷ (ak1 g ∷ (blocks (g .sets) ++ ak9 g ∷ []))
+
+-- SE counts itself too
+unfoldable pub transactionSet : Bytes → GroupReport → List Segment
+transactionSet st02 g = told st02 g ++ (ascii "SE" ∷ decimal (length (told st02 g) + 1) ∷ st02 ∷ []) ∷ []
+
+-- 4. The envelope: the parties change places.
+unfoldable pub isaOut : Delimiters → Segment → ℕ → ℕ → ℕ → Segment
+isaOut d received date time control =
+    ascii "ISA" ∷ ascii "00" ∷ ascii "          " ∷ ascii "00" ∷ ascii "          "
+    ∷ field received 7 ∷ field received 8 ∷ field received 5 ∷ field received 6
+    ∷ padded 6 date ∷ padded 4 time ∷ ascii "U" ∷ ascii "00401" ∷ padded 9 control ∷ ascii "0"
+    ∷ field received 15 ∷ (d .component ∷ []) ∷ []
+
+unfoldable pub gsOut : Segment → ℕ → ℕ → ℕ → Segment
+gsOut gs date time control =
+    ascii "GS" ∷ ascii "FA" ∷ field gs 3 ∷ field gs 2 ∷ padded 8 date ∷ padded 4 time ∷ decimal control
+    ∷ ascii "X" ∷ ascii "004010" ∷ []
+
+unfoldable pub geOut : ℕ → ℕ → Segment
+geOut n control = ascii "GE" ∷ decimal n ∷ decimal control ∷ []
+
+unfoldable pub ieaOut : ℕ → ℕ → Segment
+ieaOut n control = ascii "IEA" ∷ decimal n ∷ padded 9 control ∷ []
+
+-- 5. The whole response to an interchange.
+unfoldable pub respond : Bytes → Group → ℕ → ℕ → ℕ → List Segment
+respond i g date time control =
+    let d = delimiters i in
+    isaOut d (isa i) date time control
+    ∷ (gsOut (g .header) date time control
+    ∷ (transactionSet (ascii "0001") (groupReport d g)
+    ++ geOut 1 control ∷ ieaOut 1 control ∷ []))
+
+unfoldable pub response : Bytes → ℕ → ℕ → ℕ → Bytes
+response i date time control =
+    let d = delimiters i in
+    out d (respond i (groupOf (segments d i)) date time control)

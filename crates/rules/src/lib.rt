@@ -1,0 +1,76 @@
+// The types that the code and the definitions of document 01 share. The definitions stand in specs/, the theorems on them in proofs/.
+ghost use mathlib.Core.Path.{_≡_};
+
+// The limits of an interchange, in bytes.
+pub struct Interchange {
+    pub length: usize,
+}
+
+impl Interchange {
+    pub const SHORTEST: usize = 106;
+
+    pub const LONGEST: usize = 65536;
+}
+
+// The bytes that cut an interchange into segments, elements and components.
+pub struct Delimiters {
+    pub element: u8,
+    pub component: u8,
+    pub terminator: u8,
+}
+
+impl Delimiters {
+    pub fn new(element: u8, component: u8, terminator: u8) -> Self
+        ensures { λ r. ⌜ r ≡ record { element = element; component = component; terminator = terminator } ⌝ }
+    {
+        Self {
+            element,
+            component,
+            terminator,
+        }
+    }
+}
+
+// The type of an element.
+pub enum Kind {
+    AN,
+    ID,
+    N0,
+    DT,
+    TM,
+}
+
+// The relation that a syntax note asks of the elements at its places: paired, required, exclusive, conditional, list conditional.
+pub enum Relation {
+    P,
+    R,
+    E,
+    C,
+    L,
+}
+
+// What is found of one element, an AK4: its place, its reference number (0 for none) and the code.
+pub struct Finding {
+    pub place: usize,
+    pub reference: u16,
+    pub code: u8,
+}
+
+impl Finding {
+    pub fn new(place: usize, reference: u16, code: u8) -> Self
+        ensures { λ r. ⌜ r ≡ record { place = place; reference = reference; code = code } ⌝ }
+    {
+        Self {
+            place,
+            reference,
+            code,
+        }
+    }
+}
+
+// What a caller gets: the response with its length, a refusal with its number, or the length that the buffer lacks.
+pub enum Answer {
+    Written(usize),
+    Refused(u8),
+    TooLong(usize),
+}
