@@ -33,6 +33,9 @@ isUpper = between 65 90
 abbrev pub isLower : ℕ → Bool
 isLower = between 97 122
 
+abbrev pub isUpperOrDigit : ℕ → Bool
+isUpperOrDigit b = isUpper b || isDigit b
+
 -- byte for byte the same
 unfoldable pub same : Bytes → Bytes → Bool
 same [] [] = true

@@ -2,9 +2,10 @@
 use Prim.Native.Nat.{ℕ, zero, suc, _+_, _-_, _*_, _/_, _%_}
 use mathlib.Core.Bool.{Bool, true, false, _&&_, _||_}
 use mathlib.Core.List.{List, [], _∷_, _++_}
+use mathlib.Core.Option.{Option, none, some}
 use lib.Dec.{leb, ltb, eqb}
 use lib.ListN.{length, take, drop}
-use Rattle.rules.specs.Base.{Bytes, if_then_else_, between, isDigit, all}
+use Rattle.rules.specs.Base.{Bytes, if_then_else_, between, isDigit, all, holds}
 
 -- lo to hi digits and nothing else
 unfoldable pub digits : ℕ → ℕ → Bytes → Bool
@@ -18,9 +19,13 @@ valueFrom n (b ∷ bs) = valueFrom (n * 10 + (b - 48)) bs
 unfoldable pub value : Bytes → ℕ
 value = valueFrom 0
 
--- at most hi digits, one at least, whose value is n: how SE01, GE01 and IEA01 declare a count
-unfoldable pub declares : ℕ → Bytes → ℕ → Bool
-declares hi bs n = digits 1 hi bs && eqb (value bs) n
+-- the count that one to hi digits declare
+unfoldable pub declared : ℕ → Bytes → Option ℕ
+declared hi bs = if digits 1 hi bs then some (value bs) else none
+
+-- SE01, GE01 or IEA01 declares the count n
+abbrev pub declares : ℕ → Bytes → ℕ → Bool
+declares hi bs n = holds (eqb n) (declared hi bs)
 
 -- the last w digits of n
 unfoldable pub padded : ℕ → ℕ → Bytes

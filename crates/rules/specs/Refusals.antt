@@ -4,7 +4,7 @@ use mathlib.Core.Bool.{Bool, true, false, _&&_, _||_, not}
 use mathlib.Core.List.{List, [], _∷_, _++_}
 use lib.Dec.{leb, eqb}
 use lib.ListN.{length, take, getD}
-use Rattle.rules.specs.Base.{Bytes, Rule, _⇒_, first, null, all, any, between, isDigit, isUpper, isLower, ascii, same, member, last}
+use Rattle.rules.specs.Base.{Bytes, Rule, _⇒_, first, null, all, any, between, isDigit, isUpper, isLower, isUpperOrDigit, ascii, same, member, last}
 use Rattle.rules.specs.Cutting.{Segment, field, isNamed, delimiters, marks, separators, valid, text, isa, segments}
 use Rattle.rules.specs.Numbers.{digits, declares, isDay, isDate, isTime}
 use Rattle.rules.specs.Sets.{Set, stray}
@@ -81,7 +81,7 @@ trailerRules iea n isa13 = (not (hasTwo iea && countsGroups n iea && closes iea 
 unfoldable pub goodGS : Delimiters → Segment → Bool
 goodGS d s =
     eqb (length s) 9
-    && eqb (length (field s 1)) 2 && all (λ b. isUpper b || isDigit b) (field s 1)
+    && eqb (length (field s 1)) 2 && all isUpperOrDigit (field s 1)
     && text d 2 15 (field s 2) && text d 2 15 (field s 3)
     && isDate (field s 4) && isTime (field s 5) && digits 1 9 (field s 6)
     && text d 1 2 (field s 7) && text d 1 12 (field s 8)

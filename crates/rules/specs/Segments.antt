@@ -5,7 +5,7 @@ use mathlib.Core.List.{List, [], _∷_, _++_, map}
 use mathlib.Core.Option.{Option, none, some}
 use lib.Dec.{ltb, eqb}
 use lib.ListN.{length, drop}
-use Rattle.rules.specs.Base.{Bytes, Rule, _⇒_, every, null, all, between, isDigit, isUpper, ascii, same, member, keep, if_then_else_}
+use Rattle.rules.specs.Base.{Bytes, Rule, _⇒_, every, null, all, between, isUpperOrDigit, ascii, same, member, keep, if_then_else_}
 use Rattle.rules.specs.Cutting.{Segment, field}
 use Rattle.rules.specs.Tables.{Entry, Table}
 use Rattle.rules.specs.Elements.{findings}
@@ -103,7 +103,7 @@ missing n es =
 
 -- an id as it is echoed: two or three uppercase letters or digits, else ZZZ
 unfoldable pub echoed : Bytes → Bytes
-echoed id = if between 2 3 (length id) && all (λ b. isUpper b || isDigit b) id then id else ascii "ZZZ"
+echoed id = if between 2 3 (length id) && all isUpperOrDigit id then id else ascii "ZZZ"
 
 -- an AK3 where there are codes
 abbrev pub noted : Bytes → ℕ → List ℕ → List Finding → List Note
