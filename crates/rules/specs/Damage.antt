@@ -3,7 +3,7 @@ use mathlib.Core.Path.{_≡_}
 use mathlib.Core.Bool.{Bool, true, _&&_, not}
 use mathlib.Core.List.{List, [], _∷_, _++_, map}
 use mathlib.Core.Option.{Option}
-use Prim.Native.Nat.{ℕ, _≤_}
+use Prim.Native.Nat.{ℕ, _+_}
 use lib.Dec.{eqb}
 use lib.ListN.{length, take, drop, getD}
 use Rattle.rules.specs.Base.{Bytes, all, null, last, listed, ascii}
@@ -11,7 +11,7 @@ use Rattle.rules.specs.Cutting.{Segment, delimiters, isa, segments}
 use Rattle.rules.specs.Sets.{Set, isST, isSE}
 use Rattle.rules.specs.Groups.{Group, groupOf, sets, setReports, GroupReport, groupReport}
 use Rattle.rules.specs.Refusals.{isEnvelope}
-use Rattle.rules.specs.Response.{out, block, ak1, isaOut, gsOut, response}
+use Rattle.rules.specs.Response.{out, block, ak1, ak9, stOut, seOut, told, isaOut, gsOut, geOut, ieaOut, response}
 use Rattle.rules.specs.Answers.{answer, number, buffer}
 use Rattle.rules.specs.declared.Delimiters.{Delimiters}
 
@@ -71,15 +71,22 @@ reportIn i = groupReport (delimiters i) (groupIn i)
 unfoldable pub blocksIn : Bytes → List Bytes
 blocksIn i = map (λ r. out (delimiters i) (block r)) (reportIn i .sets)
 
--- the bytes of the response before the first block: ISA, GS, ST and AK1
-unfoldable pub opening : Bytes → ℕ → ℕ → ℕ → Bytes
+-- the segments of the response before the first block, and those after the last one
+unfoldable pub opening : Bytes → ℕ → ℕ → ℕ → List Segment
 opening i date time control =
-    out (delimiters i) (
     isaOut (delimiters i) (isa i) date time control
-    ∷ gsOut (groupIn i .header) date time control
-    ∷ (ascii "ST" ∷ ascii "997" ∷ ascii "0001" ∷ [])
-    ∷ ak1 (reportIn i)
-    ∷ [])
+    ∷ (gsOut (groupIn i .header) date time control
+    ∷ (stOut (ascii "0001")
+    ∷ (ak1 (reportIn i)
+    ∷ [])))
+
+unfoldable pub closing : Bytes → ℕ → List Segment
+closing i control =
+    ak9 (reportIn i)
+    ∷ (seOut (length (told (ascii "0001") (reportIn i)) + 1) (ascii "0001")
+    ∷ (geOut 1 control
+    ∷ (ieaOut 1 control
+    ∷ [])))
 
 unfoldable pub joined : List Bytes → Bytes
 joined [] = []
@@ -89,11 +96,14 @@ joined (b ∷ bs) = b ++ joined bs
 abbrev pub left : Bytes → Bytes → ℕ → ℕ → ℕ → Bytes
 left i lent date time control = buffer (answer i (length lent) date time control) (response i date time control) lent
 
--- j, which is i with the sets after, is answered into the buffer lent; the buffer starts with the bytes that the response to i starts with,
--- and goes on with the blocks; these are what the definitions say of the sets after, and an untouched set has its old block at its old place
+-- j, which is i with the sets after, is answered into the buffer lent. The buffer then has the opening of the response to i, the blocks,
+-- the closing and what was lent; the blocks are what the definitions say of the sets after, and an untouched set has its old block at its
+-- old place; the number of sets received and the group's codes are the old ones.
 pub record Stays (i j lent : Bytes) (after : List Set) (date time control : ℕ) : Type 0 where
   pub answered : number (answer j (length lent) date time control) ≡ 0
-  pub written : (rest : Bytes) × (left j lent date time control ≡ opening i date time control ++ joined (blocksIn j) ++ rest)
+  pub written : left j lent date time control
+      ≡ out (delimiters i) (opening i date time control) ++ joined (blocksIn j) ++ out (delimiters i) (closing j control)
+      ++ drop (length (response j date time control)) lent
   pub blocks : blocksIn j ≡ map (λ r. out (delimiters i) (block r)) (setReports (delimiters i) (groupIn i .header) [] after)
   pub untouched : (k : ℕ) (d : Set) → getD after k d ≡ getD (setsIn i) k d → getD (blocksIn j) k [] ≡ getD (blocksIn i) k []
   pub received : reportIn j .received ≡ reportIn i .received
