@@ -3,6 +3,7 @@ pub mod Cuts
 pub mod SetLaws
 pub mod Envelope
 pub mod Damage
+pub mod Facts
 pub mod Open
 pub mod Exchange
 pub mod Marked
