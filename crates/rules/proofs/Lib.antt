@@ -4,6 +4,8 @@ pub mod SetLaws
 pub mod Envelope
 pub mod Damage
 pub mod Facts
+pub mod Lengths
+pub mod Bound
 pub mod Open
 pub mod Exchange
 pub mod Marked
