@@ -1,0 +1,82 @@
+-- Digits and the number that they stand for.
+use Prim.Native.Nat.{ℕ, suc, _+_, _-_, _*_, _^_, _<_, _≤_}
+use mathlib.Core.Path.{_≡_, refl}
+use mathlib.Core.Bool.{Bool, true, false}
+use mathlib.Core.List.{[], _∷_}
+use native.Mathlib.Nat.{add-zero, pow-suc, pow-le-pow-right, lt-of-lt-of-le}
+use native.Mathlib.Numerals.{add-one}
+use native.Mathlib.Omega.{arith}
+use borrow.Author.Tests.{leb-true, le-leb, lt-leb}
+use lib.Dec.{leb, lit<}
+use lib.ListN.{length, getD, drop, drop-of-length-le}
+use Rattle.rules.specs.Base.{Bytes, between, isDigit, all, if_then_else_}
+use Rattle.rules.specs.Numbers.{digits, valueFrom, value}
+use Rattle.text.specs.Text.{upToTen}
+use Rattle.text.proofs.Loops.{and-left, and-right, left-cons}
+
+pub between-true : (lo hi n : ℕ) → between lo hi n ≡ true → (lo ≤ n) × (n ≤ hi)
+between-true lo hi n e =
+    (leb-true lo n (and-left (leb lo n) (leb n hi) e), leb-true n hi (and-right (leb lo n) (leb n hi) e))
+
+module _ (lo hi : ℕ) (s : Bytes) (e : digits lo hi s ≡ true) where
+  pub digits-length : (lo ≤ length s) × (length s ≤ hi)
+  unfolding digits
+  digits-length = between-true lo hi (length s) (and-left (between lo hi (length s)) (all isDigit s) e)
+
+  pub digits-all : all isDigit s ≡ true
+  unfolding digits
+  digits-all = and-right (between lo hi (length s)) (all isDigit s) e
+
+-- one turn of reading a number, and its end
+pub value-step : (n : ℕ) (s : Bytes) (i : ℕ) → i < length s → valueFrom n (drop i s) ≡ valueFrom (n * 10 + (getD s i 0 - 48)) (drop (i + 1) s)
+unfolding valueFrom
+value-step n s i h = rw (left-cons s i h)
+
+pub value-end : (n : ℕ) (s : Bytes) (i : ℕ) → length s ≤ i → valueFrom n (drop i s) ≡ n
+unfolding valueFrom
+value-end n s i h = rw (drop-of-length-le s {i = i} h)
+
+-- a number of i digits and one digit more
+pub below-more : (n x i : ℕ) → n < 10 ^ i → x ≤ 9 → n * 10 + x < 10 ^ (i + 1)
+below-more n x i h k = rw (add-one, pow-suc) (omega arith)
+
+pub below-ten : (n i : ℕ) → n < 10 ^ i → i ≤ 10 → n < 10000000000
+below-ten n i h k = lt-of-lt-of-le h (pow-le-pow-right {n = 10} (lit< tt) {i = i} {j = 10} k)
+
+below-from : (n i : ℕ) (s : Bytes) → n < 10 ^ i → all isDigit s ≡ true → valueFrom n s < 10 ^ (i + length s)
+unfolding all valueFrom
+below-from n i [] h e = rw add-zero h
+below-from n i (b ∷ bs) h e =
+    let d = between-true 48 57 b (and-left (isDigit b) (all isDigit bs) e) in
+    let r = below-from (n * 10 + (b - 48)) (i + 1) bs (below-more n (b - 48) i h (omega arith)) (and-right (isDigit b) (all isDigit bs) e) in
+    let l : i + suc (length bs) ≡ i + 1 + length bs = omega arith in
+    rw l r
+
+-- the value of at most hi digits
+pub value-below : (lo hi : ℕ) (s : Bytes) → digits lo hi s ≡ true → value s < 10 ^ hi
+unfolding value
+value-below lo hi s e =
+    let l = digits-length lo hi s e in
+    lt-of-lt-of-le
+    (below-from 0 0 s (lit< tt) (digits-all lo hi s e))
+    (pow-le-pow-right {n = 10} (lit< tt) {i = 0 + length s} {j = hi} (omega arith))
+
+-- what `value` answers, by the two tests of it
+pub value-long : (s : Bytes) → 10 < length s → upToTen s ≡ 0
+unfolding upToTen digits
+value-long s h = rw (le-leb 0 (length s) (omega arith), lt-leb (length s) 10 h)
+
+pub value-by : (s : Bytes) (q : Bool) → length s ≤ 10 → all isDigit s ≡ q → upToTen s ≡ if q then value s else 0
+unfolding upToTen digits
+value-by s q h e = rw (le-leb 0 (length s) (omega arith), le-leb (length s) 10 h, e)
+
+pub value-of : (lo hi : ℕ) (s : Bytes) → digits lo hi s ≡ true → hi ≤ 10 → upToTen s ≡ value s
+value-of lo hi s e h = let l = digits-length lo hi s e in value-by s true (omega arith) (digits-all lo hi s e)
+
+pub upToTen-below : (s : Bytes) → upToTen s < 10000000000
+unfolding upToTen
+upToTen-below s = go (digits 0 10 s) refl
+  where
+    go : (q : Bool) → digits 0 10 s ≡ q → (if q then value s else 0) < 10000000000
+    go true e = value-below 0 10 s e
+    go false e = lit< tt

@@ -1,0 +1,4 @@
+pub mod Loops
+pub mod Search
+pub mod Digits
+pub mod Times

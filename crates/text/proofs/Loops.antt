@@ -1,0 +1,86 @@
+-- A loop over a list at a cursor: what is left at one place is the element there and what is left at the next.
+use Prim.Native.Nat.{ℕ, zero, suc, _+_, _<_, _≤_}
+use mathlib.Core.Path.{_≡_, refl, ap}
+use mathlib.Core.Bool.{Bool, true, false, _&&_, _||_, false≢true}
+use mathlib.Core.List.{List, [], _∷_}
+use native.Mathlib.Nat.{not-suc-le-zero, le-of-suc-le-suc}
+use native.Mathlib.Numerals.{add-one}
+use lib.Dec.{eqb}
+use lib.ListN.{length, getD, take, drop, drop-of-length-le}
+use lib.Seq.{drop-cons}
+use Rattle.rules.specs.Base.{Bytes, same, all, any}
+
+pub and-left : (a b : Bool) → a && b ≡ true → a ≡ true
+and-left true b e = refl
+and-left false b e = e
+
+pub and-right : (a b : Bool) → a && b ≡ true → b ≡ true
+and-right true b e = e
+and-right false b e = absurd (false≢true e)
+
+pub and-false : (a : Bool) → a && false ≡ false
+and-false true = refl
+and-false false = refl
+
+pub or-false : (a : Bool) → a || false ≡ a
+or-false true = refl
+or-false false = refl
+
+pub left-cons : (s : Bytes) (i : ℕ) → i < length s → drop i s ≡ getD s i 0 ∷ drop (i + 1) s
+left-cons s i h = rw add-one (drop-cons s i 0 h)
+
+-- a test over all or any: the element at k passes as q says, and the rest decides
+module _ {A : Type 0} (p : A → Bool) (xs : List A) (d : A) (k : ℕ) (q : Bool) (h : k < length xs) (e : p (getD xs k d) ≡ q) where
+  pub all-step : all p (drop k xs) ≡ q && all p (drop (k + 1) xs)
+  unfolding all
+  all-step = rw (add-one, drop-cons xs k d h, e)
+
+  pub any-step : any p (drop k xs) ≡ q || any p (drop (k + 1) xs)
+  unfolding any
+  any-step = rw (add-one, drop-cons xs k d h, e)
+
+module _ {A : Type 0} (p : A → Bool) (xs : List A) (k : ℕ) (h : length xs ≤ k) where
+  pub all-end : all p (drop k xs) ≡ true
+  unfolding all
+  all-end = rw (drop-of-length-le xs {i = k} h)
+
+  pub any-end : any p (drop k xs) ≡ false
+  unfolding any
+  any-end = rw (drop-of-length-le xs {i = k} h)
+
+-- what all pass, each passes, and so do all of a part
+module _ {A : Type 0} (p : A → Bool) where
+  pub all-at : (xs : List A) (d : A) (k : ℕ) → all p xs ≡ true → k < length xs → p (getD xs k d) ≡ true
+  unfolding all
+  all-at [] d k e h = absurd (not-suc-le-zero h)
+  all-at (x ∷ xs) d zero e h = and-left (p x) (all p xs) e
+  all-at (x ∷ xs) d (suc k) e h = all-at xs d k (and-right (p x) (all p xs) e) (le-of-suc-le-suc h)
+
+  pub all-drop : (k : ℕ) (xs : List A) → all p xs ≡ true → all p (drop k xs) ≡ true
+  unfolding all
+  all-drop zero xs e = e
+  all-drop (suc k) [] e = e
+  all-drop (suc k) (x ∷ xs) e = all-drop k xs (and-right (p x) (all p xs) e)
+
+  pub all-take : (k : ℕ) (xs : List A) → all p xs ≡ true → all p (take k xs) ≡ true
+  unfolding all
+  all-take zero xs e = refl
+  all-take (suc k) [] e = refl
+  all-take (suc k) (x ∷ xs) e = rw (and-left (p x) (all p xs) e) (all-take k xs (and-right (p x) (all p xs) e))
+
+-- two byte strings: the bytes at k are equal as q says, and the rest decides
+pub same-step : (a b : Bytes) (k : ℕ) (q : Bool) → k < length a → k < length b → eqb (getD a k 0) (getD b k 0) ≡ q
+    → same (drop k a) (drop k b) ≡ q && same (drop (k + 1) a) (drop (k + 1) b)
+unfolding same
+same-step a b k q h h′ e = rw (left-cons a k h, left-cons b k h′, e)
+
+pub same-end : (a b : Bytes) (k : ℕ) → length a ≤ k → length b ≤ k → same (drop k a) (drop k b) ≡ true
+unfolding same
+same-end a b k h h′ = rw (drop-of-length-le a {i = k} h, drop-of-length-le b {i = k} h′)
+
+pub same-lengths : (a b : Bytes) → (length a ≡ length b → ⊥) → same a b ≡ false
+unfolding same
+same-lengths [] [] h = absurd (h refl)
+same-lengths [] (y ∷ ys) h = refl
+same-lengths (x ∷ xs) [] h = refl
+same-lengths (x ∷ xs) (y ∷ ys) h = rw (same-lengths xs ys (λ e. h (ap suc e))) (and-false (eqb x y))

@@ -1,0 +1,31 @@
+-- `text::is_day` meets its contract.
+use mathlib.Core.Path.{sym, _∙_}
+use Rattle.rules.specs.Numbers.{isDay}
+use borrow.Author.Needs.{needs}
+use Rattle.text.proofs.is_day.Statement.{statement}
+use Rattle.text.proofs.is_day.Tie as tie
+
+cast-month : tie.Need-cast-month
+cast-month c = search needs
+
+cast-day : tie.Need-cast-day
+cast-day c = search needs
+
+is-between-requires : tie.Need-is-between-requires
+is-between-requires c κs = search needs
+
+is-between-requires-2 : tie.Need-is-between-requires-2
+is-between-requires-2 c κs = search needs
+
+returns : tie.Need-returns
+unfolding isDay
+returns c = rw (sym (c .before .before .is-between .ensures) ∙ c .before .if1 .taken, c .is-between2 .ensures)
+
+returns-2 : tie.Need-returns-2
+unfolding isDay
+returns-2 c = rw (sym (c .before .is-between .ensures) ∙ c .if1 .left) (c .if1 .left)
+
+pub is-day-spec : {M : Type 1} → statement M
+is-day-spec =
+    tie.close
+    (tie.spec cast-month cast-day is-between-requires is-between-requires-2 returns returns-2)

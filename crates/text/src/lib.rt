@@ -1,0 +1,214 @@
+// Leaves on bytes: searching, comparing, digits and the numbers that they stand for, dates, times, valid bytes.
+ghost use mathlib.Core.Path.{_≡_};
+ghost use mathlib.Core.Bool.{_||_};
+ghost use Prim.Native.Nat.{_+_};
+ghost use lib.ListN.{drop};
+ghost use Rattle.rules.specs.Base.{between, isDigit, isUpper, isUpperOrDigit, same, all};
+ghost use Rattle.rules.specs.Cutting.{valid, text};
+ghost use Rattle.rules.specs.Numbers.{digits, isDay, isDate, isTime};
+ghost use Rattle.rules.specs.Elements as elements;
+ghost use Rattle.text.specs.Text.{indexOf, upToTen};
+use rules::Delimiters;
+
+// The place of the first b from `from` on; the length where there is none, and `from` where that is past the end.
+pub fn find(s: &[u8], from: usize, b: u8) -> usize
+    ensures { λ r. ⌜ r ≡ from + indexOf b (drop from (now (s .entry))) ⌝ }
+{
+    let mut i = from;
+    while i < s.len() {
+        if s[i] == b {
+            return i;
+        }
+        i += 1;
+    }
+    i
+}
+
+// Byte for byte the same.
+pub fn same_bytes(a: &[u8], b: &[u8]) -> bool
+    ensures { λ r. ⌜ r ≡ same (now (a .entry)) (now (b .entry)) ⌝ }
+{
+    if a.len() != b.len() {
+        return false;
+    }
+    let mut i = 0;
+    while i < a.len() {
+        if a[i] != b[i] {
+            return false;
+        }
+        i += 1;
+    }
+    true
+}
+
+// n is one of lo to hi.
+fn is_between(n: usize, lo: usize, hi: usize) -> bool
+    ensures { λ r. ⌜ r ≡ between lo hi n ⌝ }
+{
+    lo <= n && n <= hi
+}
+
+fn is_digit(b: u8) -> bool
+    ensures { λ r. ⌜ r ≡ isDigit b ⌝ }
+{
+    b'0' <= b && b <= b'9'
+}
+
+// Nothing but digits.
+pub fn all_digits(s: &[u8]) -> bool
+    ensures { λ r. ⌜ r ≡ all isDigit (now (s .entry)) ⌝ }
+{
+    let mut i = 0;
+    while i < s.len() {
+        if !is_digit(s[i]) {
+            return false;
+        }
+        i += 1;
+    }
+    true
+}
+
+// lo to hi digits and nothing else.
+pub fn is_digits(s: &[u8], lo: usize, hi: usize) -> bool
+    ensures { λ r. ⌜ r ≡ digits lo hi (now (s .entry)) ⌝ }
+{
+    is_between(s.len(), lo, hi) && all_digits(s)
+}
+
+// The number that at most ten digits stand for; 0 for anything else.
+pub fn value(s: &[u8]) -> u64
+    ensures { λ r. ⌜ r ≡ upToTen (now (s .entry)) ⌝ }
+{
+    if 10 < s.len() {
+        return 0;
+    }
+    let mut n: u64 = 0;
+    let mut i = 0;
+    while i < s.len() {
+        let b = s[i];
+        if !is_digit(b) {
+            return 0;
+        }
+        n = n * 10 + (b - b'0') as u64;
+        i += 1;
+    }
+    n
+}
+
+// A day CCYYMMDD: month 01 to 12, day 01 to 31.
+pub fn is_day(n: u32) -> bool
+    ensures { λ r. ⌜ r ≡ isDay n ⌝ }
+{
+    let month = (n / 100 % 100) as usize;
+    let day = (n % 100) as usize;
+    is_between(month, 1, 12) && is_between(day, 1, 31)
+}
+
+// Rule DT: eight digits that are a day.
+pub fn is_date(s: &[u8]) -> bool
+    ensures { λ r. ⌜ r ≡ isDate (now (s .entry)) ⌝ }
+{
+    is_digits(s, 8, 8) && is_day(value(s) as u32)
+}
+
+// As many digits as a time may have: HHMM, HHMMSS, and one or two more.
+fn is_time_digits(s: &[u8]) -> bool
+    ensures { λ r. ⌜ r ≡ (digits 4 4 (now (s .entry)) || digits 6 8 (now (s .entry))) ⌝ }
+{
+    is_digits(s, 4, 4) || is_digits(s, 6, 8)
+}
+
+// Rule TM: hours 00 to 23, minutes and seconds 00 to 59.
+pub fn is_time(s: &[u8]) -> bool
+    ensures { λ r. ⌜ r ≡ isTime (now (s .entry)) ⌝ }
+{
+    if !is_time_digits(s) {
+        return false;
+    }
+    if 23 < value(&s[0..2]) {
+        return false;
+    }
+    if 59 < value(&s[2..4]) {
+        return false;
+    }
+    s.len() == 4 || value(&s[4..6]) <= 59
+}
+
+// A valid byte: 32 to 126 and no delimiter.
+pub fn is_valid(b: u8, d: Delimiters) -> bool
+    ensures { λ r. ⌜ r ≡ valid d b ⌝ }
+{
+    if b < 32 {
+        return false;
+    }
+    if 126 < b {
+        return false;
+    }
+    if b == d.element {
+        return false;
+    }
+    if b == d.component {
+        return false;
+    }
+    b != d.terminator
+}
+
+// Nothing but valid bytes.
+pub fn all_valid(s: &[u8], d: Delimiters) -> bool
+    ensures { λ r. ⌜ r ≡ all (valid d) (now (s .entry)) ⌝ }
+{
+    let mut i = 0;
+    while i < s.len() {
+        if !is_valid(s[i], d) {
+            return false;
+        }
+        i += 1;
+    }
+    true
+}
+
+// lo to hi valid bytes and nothing else.
+pub fn is_text(s: &[u8], lo: usize, hi: usize, d: Delimiters) -> bool
+    ensures { λ r. ⌜ r ≡ text d lo hi (now (s .entry)) ⌝ }
+{
+    is_between(s.len(), lo, hi) && all_valid(s, d)
+}
+
+fn is_upper(b: u8) -> bool
+    ensures { λ r. ⌜ r ≡ isUpper b ⌝ }
+{
+    b'A' <= b && b <= b'Z'
+}
+
+fn is_upper_or_digit(b: u8) -> bool
+    ensures { λ r. ⌜ r ≡ isUpperOrDigit b ⌝ }
+{
+    is_upper(b) || is_digit(b)
+}
+
+// Nothing but uppercase letters and digits.
+pub fn is_name(s: &[u8]) -> bool
+    ensures { λ r. ⌜ r ≡ all isUpperOrDigit (now (s .entry)) ⌝ }
+{
+    let mut i = 0;
+    while i < s.len() {
+        if !is_upper_or_digit(s[i]) {
+            return false;
+        }
+        i += 1;
+    }
+    true
+}
+
+// Without a leading minus.
+pub fn unsigned(s: &[u8]) -> &[u8]
+    ensures { λ r. ⌜ now r ≡ elements.unsigned (now (s .entry)) ⌝ }
+{
+    if s.len() == 0 {
+        return s;
+    }
+    if s[0] == b'-' {
+        return &s[1..];
+    }
+    s
+}
