@@ -9,3 +9,4 @@ pub mod Bound
 pub mod Open
 pub mod Exchange
 pub mod Marked
+pub mod Tempting
