@@ -11,7 +11,7 @@ returns : tie.Need-returns
 returns c = record { count = omega arith; bytes = sym (over-byte _ _) }
 
 returns-2 : tie.Need-returns-2
-returns-2 c = record { count = omega arith; bytes = sym (over-byte _ _ ∙ set-out _ _ _ (c .if1 .left)) }
+returns-2 c = record { count = omega arith; bytes = sym (over-byte _ _ ∙ set-out _ 0 _ (omega arith)) }
 
 pub put-byte-spec : {M : Type 1} → statement M
 put-byte-spec = tie.close (tie.spec (λ c. search needs) (λ c. search needs) returns returns-2)
