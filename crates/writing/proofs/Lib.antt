@@ -1,0 +1,4 @@
+pub mod Over
+pub mod Laws
+pub mod Numbers
+pub mod Segments

@@ -1,0 +1,196 @@
+// Writers of bytes into a lent buffer. A block writes its text at the start of what it is lent, a piece after n bytes of it. Each writes what
+// fits and answers the full length, so that on an empty part it only measures. No writer knows what is being said.
+ghost use mathlib.Core.Path.{_≡_};
+ghost use mathlib.Core.List.{[], _∷_, map};
+ghost use Prim.Native.Nat.{_+_, min};
+ghost use Rattle.rules.specs.Numbers.{decimal, padded};
+ghost use Rattle.rules.specs.Response.{fieldsOut, segmentOut};
+ghost use Rattle.writing.specs.Over.{sat, Wrote, From};
+ghost use Rattle.writing.specs.Optional.{optional};
+
+// The largest count: it stands for every length that is greater.
+const MOST: usize = 18446744073709551615;
+
+// Where the rest begins after n bytes of a buffer of len bytes.
+pub fn clipped(n: usize, len: usize) -> usize
+    ensures { λ r. ⌜ r ≡ min n len ⌝ }
+{
+    if n < len { n } else { len }
+}
+
+// The length of two texts, one after the other.
+pub fn joined(n: usize, m: usize) -> usize
+    ensures { λ r. ⌜ r ≡ sat (n + m) ⌝ }
+{
+    if m <= MOST - n { n + m } else { MOST }
+}
+
+// One byte.
+pub fn put_byte(out: &mut [u8], b: u8) -> usize
+    ensures { λ r. ⌜ Wrote (b ∷ []) r (now (out .entry)) (now (out .exit)) ⌝ }
+{
+    if 0 < out.len() {
+        out[0] = b;
+    }
+    1
+}
+
+// Bytes as they are.
+pub fn put_bytes(out: &mut [u8], bytes: &[u8]) -> usize
+    ensures { λ r. ⌜ Wrote (now (bytes .entry)) r (now (out .entry)) (now (out .exit)) ⌝ }
+{
+    let end = clipped(bytes.len(), out.len());
+    let mut i = 0;
+    while i < end {
+        out[i] = bytes[i];
+        i += 1;
+    }
+    bytes.len()
+}
+
+// A byte after n bytes.
+pub fn add_byte(out: &mut [u8], n: usize, b: u8) -> usize
+    ensures { λ r. ⌜ From n (b ∷ []) r (now (out .entry)) (now (out .exit)) ⌝ }
+{
+    let at = clipped(n, out.len());
+    let m = put_byte(&mut out[at..], b);
+    joined(n, m)
+}
+
+// Bytes as they are, after n bytes.
+pub fn add_bytes(out: &mut [u8], n: usize, bytes: &[u8]) -> usize
+    ensures { λ r. ⌜ From n (now (bytes .entry)) r (now (out .entry)) (now (out .exit)) ⌝ }
+{
+    let at = clipped(n, out.len());
+    let m = put_bytes(&mut out[at..], bytes);
+    joined(n, m)
+}
+
+// A number without leading zeros.
+pub fn put_number(out: &mut [u8], v: u64) -> usize
+    ensures { λ r. ⌜ Wrote (decimal v) r (now (out .entry)) (now (out .exit)) ⌝ }
+{
+    let digit = b'0' + (v % 10) as u8;
+    if v < 10 {
+        return put_byte(out, digit);
+    }
+    let n = put_number(out, v / 10);
+    add_byte(out, n, digit)
+}
+
+// The last w digits of a number.
+pub fn put_padded(out: &mut [u8], v: u64, w: usize) -> usize
+    ensures { λ r. ⌜ Wrote (padded w v) r (now (out .entry)) (now (out .exit)) ⌝ }
+{
+    if w == 0 {
+        return 0;
+    }
+    let n = put_padded(out, v / 10, w - 1);
+    add_byte(out, n, b'0' + (v % 10) as u8)
+}
+
+// A number without leading zeros, after n bytes.
+pub fn add_number(out: &mut [u8], n: usize, v: u64) -> usize
+    ensures { λ r. ⌜ From n (decimal v) r (now (out .entry)) (now (out .exit)) ⌝ }
+{
+    let at = clipped(n, out.len());
+    let m = put_number(&mut out[at..], v);
+    joined(n, m)
+}
+
+// The last w digits of a number, after n bytes.
+pub fn add_padded(out: &mut [u8], n: usize, v: u64, w: usize) -> usize
+    ensures { λ r. ⌜ From n (padded w v) r (now (out .entry)) (now (out .exit)) ⌝ }
+{
+    let at = clipped(n, out.len());
+    let m = put_padded(&mut out[at..], v, w);
+    joined(n, m)
+}
+
+// An element of bytes, after its separator.
+pub fn add_field(out: &mut [u8], n: usize, d: rules::Delimiters, bytes: &[u8]) -> usize
+    ensures { λ r. ⌜ From n (fieldsOut d (now (bytes .entry) ∷ [])) r (now (out .entry)) (now (out .exit)) ⌝ }
+{
+    let n = add_byte(out, n, d.element);
+    add_bytes(out, n, bytes)
+}
+
+// An element of one byte, after its separator.
+pub fn add_single(out: &mut [u8], n: usize, d: rules::Delimiters, b: u8) -> usize
+    ensures { λ r. ⌜ From n (fieldsOut d ((b ∷ []) ∷ [])) r (now (out .entry)) (now (out .exit)) ⌝ }
+{
+    let n = add_byte(out, n, d.element);
+    add_byte(out, n, b)
+}
+
+// A number as an element, after its separator.
+pub fn add_count(out: &mut [u8], n: usize, d: rules::Delimiters, v: u64) -> usize
+    ensures { λ r. ⌜ From n (fieldsOut d (decimal v ∷ [])) r (now (out .entry)) (now (out .exit)) ⌝ }
+{
+    let n = add_byte(out, n, d.element);
+    add_number(out, n, v)
+}
+
+// The last w digits of a number as an element, after its separator.
+pub fn add_fixed(out: &mut [u8], n: usize, d: rules::Delimiters, v: u64, w: usize) -> usize
+    ensures { λ r. ⌜ From n (fieldsOut d (padded w v ∷ [])) r (now (out .entry)) (now (out .exit)) ⌝ }
+{
+    let n = add_byte(out, n, d.element);
+    add_padded(out, n, v, w)
+}
+
+// A number as an element, which is empty for 0, after its separator.
+pub fn add_optional(out: &mut [u8], n: usize, d: rules::Delimiters, v: u64) -> usize
+    ensures { λ r. ⌜ From n (fieldsOut d (optional v ∷ [])) r (now (out .entry)) (now (out .exit)) ⌝ }
+{
+    let n = add_byte(out, n, d.element);
+    if v == 0 {
+        return n;
+    }
+    add_number(out, n, v)
+}
+
+// Codes as elements, each after its separator.
+pub fn add_codes(out: &mut [u8], n: usize, d: rules::Delimiters, codes: &[u8]) -> usize
+    ensures { λ r. ⌜ From n (fieldsOut d (map decimal (now (codes .entry)))) r (now (out .entry)) (now (out .exit)) ⌝ }
+{
+    let mut m = n;
+    let mut i = 0;
+    while i < codes.len() {
+        m = add_count(out, m, d, codes[i] as u64);
+        i += 1;
+    }
+    m
+}
+
+// A segment of two elements.
+pub fn put_pair(
+    out: &mut [u8],
+    d: rules::Delimiters,
+    id: &[u8],
+    first: &[u8],
+    second: &[u8],
+) -> usize
+    ensures { λ r. ⌜ Wrote (segmentOut d (now (id .entry) ∷ now (first .entry) ∷ now (second .entry) ∷ [])) r (now (out .entry)) (now (out .exit)) ⌝ }
+{
+    let n = add_bytes(out, 0, id);
+    let n = add_field(out, n, d, first);
+    let n = add_field(out, n, d, second);
+    add_byte(out, n, d.terminator)
+}
+
+// A segment of two elements, after n bytes.
+pub fn add_pair(
+    out: &mut [u8],
+    n: usize,
+    d: rules::Delimiters,
+    id: &[u8],
+    first: &[u8],
+    second: &[u8],
+) -> usize
+    ensures { λ r. ⌜ From n (segmentOut d (now (id .entry) ∷ now (first .entry) ∷ now (second .entry) ∷ [])) r (now (out .entry)) (now (out .exit)) ⌝ }
+{
+    let at = clipped(n, out.len());
+    let m = put_pair(&mut out[at..], d, id, first, second);
+    joined(n, m)
+}
