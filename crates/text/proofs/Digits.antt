@@ -18,6 +18,14 @@ pub between-true : (lo hi n : ℕ) → between lo hi n ≡ true → (lo ≤ n) �
 between-true lo hi n e =
     (leb-true lo n (and-left (leb lo n) (leb n hi) e), leb-true n hi (and-right (leb lo n) (leb n hi) e))
 
+-- the byte at i is a digit
+pub record DigitAt (s : Bytes) (i : ℕ) : Type 0 where
+  pub low : 48 ≤ getD s i 0
+  pub high : getD s i 0 ≤ 57
+
+pub digit-at : (s : Bytes) (i : ℕ) → isDigit (getD s i 0) ≡ true → DigitAt s i
+digit-at s i e = let b = between-true 48 57 (getD s i 0) e in record { low = b .0; high = b .1 }
+
 module _ (lo hi : ℕ) (s : Bytes) (e : digits lo hi s ≡ true) where
   pub digits-length : (lo ≤ length s) × (length s ≤ hi)
   unfolding digits

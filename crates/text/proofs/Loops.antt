@@ -3,7 +3,6 @@ use Prim.Native.Nat.{ℕ, zero, suc, _+_, _<_, _≤_}
 use mathlib.Core.Path.{_≡_, refl, ap}
 use mathlib.Core.Bool.{Bool, true, false, _&&_, _||_, false≢true}
 use mathlib.Core.List.{List, [], _∷_}
-use native.Mathlib.Nat.{not-suc-le-zero, le-of-suc-le-suc}
 use native.Mathlib.Numerals.{add-one}
 use lib.Dec.{eqb}
 use lib.ListN.{length, getD, take, drop, drop-of-length-le}
@@ -26,6 +25,7 @@ pub or-false : (a : Bool) → a || false ≡ a
 or-false true = refl
 or-false false = refl
 
+-- the law of a cursor
 pub left-cons : (s : Bytes) (i : ℕ) → i < length s → drop i s ≡ getD s i 0 ∷ drop (i + 1) s
 left-cons s i h = rw add-one (drop-cons s i 0 h)
 
@@ -48,14 +48,8 @@ module _ {A : Type 0} (p : A → Bool) (xs : List A) (k : ℕ) (h : length xs �
   unfolding any
   any-end = rw (drop-of-length-le xs {i = k} h)
 
--- what all pass, each passes, and so do all of a part
+-- what all pass, all of a part pass
 module _ {A : Type 0} (p : A → Bool) where
-  pub all-at : (xs : List A) (d : A) (k : ℕ) → all p xs ≡ true → k < length xs → p (getD xs k d) ≡ true
-  unfolding all
-  all-at [] d k e h = absurd (not-suc-le-zero h)
-  all-at (x ∷ xs) d zero e h = and-left (p x) (all p xs) e
-  all-at (x ∷ xs) d (suc k) e h = all-at xs d k (and-right (p x) (all p xs) e) (le-of-suc-le-suc h)
-
   pub all-drop : (k : ℕ) (xs : List A) → all p xs ≡ true → all p (drop k xs) ≡ true
   unfolding all
   all-drop zero xs e = e
