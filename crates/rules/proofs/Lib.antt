@@ -1,3 +1,12 @@
+pub mod Logic
+pub mod Cuts
+pub mod SetLaws
+pub mod Envelope
+pub mod Damage
+pub mod Facts
+pub mod Lengths
+pub mod Bound
 pub mod Open
 pub mod Exchange
 pub mod Marked
+pub mod Tempting

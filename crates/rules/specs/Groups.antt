@@ -9,7 +9,7 @@ use Rattle.rules.specs.Base.{Bytes, Rule, _⇒_, every, null, isNone, ho
 use Rattle.rules.specs.Cutting.{Segment, field, isNamed}
 use Rattle.rules.specs.Numbers.{declares}
 use Rattle.rules.specs.Tables.{Table, editionTable, setTable}
-use Rattle.rules.specs.Sets.{Set, setsOf, control, declaredIn, SetReport, setReport, accepted}
+use Rattle.rules.specs.Sets.{Set, setsOf, controlOf, declaredIn, SetReport, setReport, accepted}
 use Rattle.rules.specs.declared.Delimiters.{Delimiters}
 
 -- a group: GS, the segments of the group, and GE where it has one
@@ -50,7 +50,7 @@ tableIn gs s = if supported gs then setTable (edition gs) (field (s .header) 1) 
 unfoldable pub setReports : Delimiters → Segment → List Bytes → List Set → List SetReport
 setReports d gs earlier [] = []
 setReports d gs earlier (s ∷ ss) =
-    setReport d (tableIn gs s) earlier s ∷ setReports d gs (control s ∷ earlier) ss
+    setReport d (tableIn gs s) earlier s ∷ setReports d gs (controlOf s ∷ earlier) ss
 
 -- the codes of AK9
 unfoldable pub groupCodes : Group → List ℕ

@@ -9,3 +9,4 @@ pub mod Groups
 pub mod Refusals
 pub mod Response
 pub mod Answers
+pub mod Damage

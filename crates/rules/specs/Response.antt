@@ -65,13 +65,19 @@ ak9 g =
     ascii "AK9" ∷ g .verdict ∷ decimal (g .declared) ∷ decimal (g .received) ∷ decimal (g .allowed)
     ∷ map decimal (g .codes)
 
+unfoldable pub stOut : Bytes → Segment
+stOut st02 = ascii "ST" ∷ ascii "997" ∷ st02 ∷ []
+
+unfoldable pub seOut : ℕ → Bytes → Segment
+seOut n st02 = ascii "SE" ∷ decimal n ∷ st02 ∷ []
+
 -- from ST to AK9
 unfoldable pub told : Bytes → GroupReport → List Segment
-told st02 g = (ascii "ST" ∷ ascii "997" ∷ st02 ∷ []) ∷ (ak1 g ∷ (blocks (g .sets) ++ ak9 g ∷ []))
+told st02 g = stOut st02 ∷ (ak1 g ∷ (blocks (g .sets) ++ ak9 g ∷ []))
 
 -- SE counts itself too
 unfoldable pub transactionSet : Bytes → GroupReport → List Segment
-transactionSet st02 g = told st02 g ++ (ascii "SE" ∷ decimal (length (told st02 g) + 1) ∷ st02 ∷ []) ∷ []
+transactionSet st02 g = told st02 g ++ seOut (length (told st02 g) + 1) st02 ∷ []
 
 -- 4. The envelope: the parties change places.
 unfoldable pub isaOut : Delimiters → Segment → ℕ → ℕ → ℕ → Segment

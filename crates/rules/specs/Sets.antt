@@ -50,8 +50,8 @@ abbrev pub segmentsOf : Set → List Segment
 segmentsOf s = s .header ∷ (s .body ++ listed (s .trailer))
 
 -- ST02
-abbrev pub control : Set → Bytes
-control s = field (s .header) 2
+abbrev pub controlOf : Set → Bytes
+controlOf s = field (s .header) 2
 
 -- what is reported of a set; declared is SE01's value, where it is a count
 pub record SetReport : Type 0 where
@@ -72,10 +72,10 @@ unfoldable pub setCodes : Option Table → List Note → List Bytes → Set → 
 setCodes t notes earlier s = every (
     (isNone t ⇒ 1) ∷
     (isNone (s .trailer) ⇒ 2) ∷
-    (holds (λ se. not (same (field se 2) (control s))) (s .trailer) ⇒ 3) ∷
+    (holds (λ se. not (same (field se 2) (controlOf s))) (s .trailer) ⇒ 3) ∷
     (holds (λ se. not (declares 10 (field se 1) (length (segmentsOf s)))) (s .trailer) ⇒ 4) ∷
     (not (null notes) ⇒ 5) ∷
-    (member (control s) earlier ⇒ 23) ∷
+    (member (controlOf s) earlier ⇒ 23) ∷
     [])
 
 -- the count that a trailer declares in at most hi digits
@@ -88,7 +88,7 @@ setReport d t earlier s =
     let notes = notesIn d t s in
     record {
       st01 = field (s .header) 1;
-      st02 = control s;
+      st02 = controlOf s;
       notes = notes;
       codes = setCodes t notes earlier s;
       declared = declaredIn 10 (s .trailer);

@@ -1,0 +1,356 @@
+-- The response to an interchange of at most 65,536 bytes, refused or not, has less than 2^40 bytes, over tables within a named limit.
+use Prim.Native.Nat.{ℕ, _+_, _*_, _≤_, _<_}
+use mathlib.Core.Path.{_≡_, refl}
+use mathlib.Core.Bool.{Bool, true, false, _&&_, _||_, not}
+use mathlib.Core.List.{List, [], _∷_, map}
+use mathlib.Core.Option.{Option, none, some}
+use native.Mathlib.Omega.{arith}
+use lib.Dec.{leb, ltb, eqb}
+use lib.ListN.{length, drop, getD, length-append, length-map}
+use borrow.Author.Tests.{leb-true}
+use Rattle.rules.specs.Base.{Bytes, Rule, _⇒_, every, null, all, keep, front, last, isNone, listed, isUpperOrDigit, ascii, same, member, if_then_else_}
+use Rattle.rules.specs.Cutting.{Segment, field, delimiters, cutAt, split, pieces, segments}
+use Rattle.rules.specs.Tables.{Row, Syntax, Entry, Table, editionTable, setTable, table006010, table004010, stRows, stRows6, seRows, b1Rows, l11Rows, k1Rows}
+use Rattle.rules.specs.Elements.{placeCodes, findingsFrom, findings}
+use Rattle.rules.specs.Segments.{Note, Place, Standing, unknown, unlisted, before, again, later, over, reach, behind, onward, against, standing, ownCode, moved, checkedBy, findingsBy, skipped, missing, echoed, noted, segmentNote, walk, notesOf}
+use Rattle.rules.specs.Sets.{Set, isST, isSE, bodyOf, trailerOf, setsOf, segmentsOf, controlOf, notesIn, setCodes, setReport}
+use Rattle.rules.specs.Groups.{Group, isGE, groupWith, groupOf, supported, edition, tableIn, setReports, groupCodes, verdict, acceptedIn, groupReport}
+use Rattle.rules.specs.Response.{fieldsOut, segmentOut, out, ak3s, block, blocks, stOut, seOut, told, transactionSet, geOut, ieaOut, respond, response}
+use Rattle.rules.specs.declared.Delimiters.{Delimiters}
+use Rattle.rules.specs.declared.Finding.{Finding}
+use Rattle.rules.proofs.Lengths.{either, padded-length, decimal-short, every-short, out-nil, out-cons, length-out-append, field-short, ak3-short, ak3s-append, ak2-short, ak5-short, ak1-short, ak9-short, isaOut-short, gsOut-short}
+
+-- 1. The limit of a table.
+-- the number of entries, of the bytes of their ids and of their rows, together
+unfoldable pub load : List Entry → ℕ
+load [] = 0
+load (e ∷ es) = 1 + length (e .id) + length (e .rows) + load es
+
+-- room for 64 entries with ids of three bytes and 60 rows each
+abbrev pub limit : ℕ
+limit = 4096
+
+abbrev pub Limited : Table → Type 0
+Limited t = load (t .entries) ≤ limit
+
+abbrev pub loadIn : Option Table → ℕ
+loadIn none = 0
+loadIn (some t) = load (t .entries)
+
+-- the tables of document 01 are limited
+pub editionTable-limited : (edition : Bytes) → loadIn (editionTable edition) ≤ limit
+unfolding editionTable table006010 table004010 stRows stRows6 seRows b1Rows l11Rows k1Rows load
+editionTable-limited edition =
+    let P : Option Table → Type 0 = λ t. loadIn t ≤ limit in
+    either P (same edition (ascii "006010")) (omega arith) (either P (same edition (ascii "004010")) (omega arith) (omega arith))
+
+tableIn-limited : (gs : Segment) (s : Set) → loadIn (tableIn gs s) ≤ limit
+unfolding tableIn setTable
+tableIn-limited gs s =
+    let P : Option Table → Type 0 = λ t. loadIn t ≤ limit in
+    either P (supported gs)
+    (either P (same (field (s .header) 1) (ascii "990")) (editionTable-limited (edition gs)) (omega arith))
+    (omega arith)
+
+-- 2. How a segment stands to a limited table.
+rest-load : (es : List Entry) → load (drop 1 es) ≤ load es
+unfolding load
+rest-load [] = omega arith
+rest-load (e ∷ es) = omega arith
+
+over-reach : (id : Bytes) (es : List Entry) → load (over id es) + load (reach id es) ≤ load es
+unfolding over reach load
+over-reach id [] = omega arith
+over-reach id (e ∷ es) = pick (same (e .id) id) (over-reach id es)
+  where
+    pick : (b : Bool) → load (over id es) + load (reach id es) ≤ load es
+        → load (if b then [] else e ∷ over id es) + load (if b then e ∷ es else reach id es) ≤ load (e ∷ es)
+    pick true h = omega arith
+    pick false h = omega arith
+
+-- the entries that a standing names
+abbrev held : Standing → ℕ
+held unknown = 0
+held unlisted = 0
+held (before e) = load (e ∷ [])
+held (again e) = load (e ∷ [])
+held (later passed e es) = load passed + load (e ∷ es)
+
+behind-held : (es : List Entry) → held (behind es) ≤ load es
+unfolding load
+behind-held [] = omega arith
+behind-held (e ∷ es) = omega arith
+
+onward-held : (passed es : List Entry) (st : Standing) → load passed + load es ≤ limit → held st ≤ limit → held (onward passed es st) ≤ limit
+onward-held passed [] st h k = k
+onward-held passed (e ∷ es) st h k = h
+
+standing-held : (t : Table) (p : Place) (id : Bytes) → Limited t → load (p .ahead) ≤ limit → held (standing t p id) ≤ limit
+unfolding standing against load
+standing-held t p id h k =
+    either (λ (st : Standing). held st ≤ limit) (member id (t .directory)) (against-held (p .ahead) k) (omega arith)
+  where
+    first-held : held (behind (reach id (t .entries))) ≤ limit
+    first-held = omega (arith, behind-held (reach id (t .entries)), over-reach id (t .entries))
+
+    against-held : (es : List Entry) → load es ≤ limit → held (against (t .entries) es id) ≤ limit
+    against-held [] k = first-held
+    against-held (e ∷ es) k =
+        either (λ (st : Standing). held st ≤ limit) (same (e .id) id)
+        (omega arith)
+        (onward-held (over id es) (reach id es) (behind (reach id (t .entries))) (omega (arith, over-reach id es)) first-held)
+
+moved-held : (st : Standing) (p : Place) → held st ≤ limit → load (p .ahead) ≤ limit → load (moved st p .ahead) ≤ limit
+moved-held unknown p h k = k
+moved-held unlisted p h k = k
+moved-held (before e) p h k = k
+moved-held (again e) p h k = k
+moved-held (later passed e es) p h k = omega arith
+
+-- 3. The notes of a set.
+placeCodes-short : (d : Delimiters) (notes : List Syntax) (s : Segment) (r : Row) (n : ℕ) → length (placeCodes d notes s r n) ≤ 4
+unfolding placeCodes
+placeCodes-short d notes s r n = every-short _
+
+findingsFrom-short : (d : Delimiters) (notes : List Syntax) (s : Segment) (n : ℕ) (rs : List Row)
+    → length (findingsFrom d notes s n rs) ≤ 4 * length rs + 1
+unfolding findingsFrom
+findingsFrom-short d notes s n [] =
+    either (λ (fs : List Finding). length fs ≤ 1) (ltb n (length s)) (omega arith) (omega arith)
+findingsFrom-short d notes s n (r ∷ rs) =
+    simp (length-append, length-map) (omega (arith, placeCodes-short d notes s r n, findingsFrom-short d notes s (n + 1) rs))
+
+-- 50 bytes for each entry passed over and byte of its id, and 67 for each finding
+standing-short : (d : Delimiters) (st : Standing) (s : Segment) → 50 * load (skipped st) + 67 * length (findingsBy d (checkedBy st) s) ≤ 268 * held st + 67
+unfolding findings load
+standing-short d unknown s = omega arith
+standing-short d unlisted s = omega arith
+standing-short d (before e) s = omega (arith, findingsFrom-short d (e .notes) s 1 (e .rows))
+standing-short d (again e) s = omega (arith, findingsFrom-short d (e .notes) s 1 (e .rows))
+standing-short d (later passed e es) s = omega (arith, findingsFrom-short d (e .notes) s 1 (e .rows))
+
+echoed-short : (id : Bytes) → length (echoed id) ≤ 3
+unfolding echoed
+echoed-short id = pick (leb 2 (length id)) (leb (length id) 3) (all isUpperOrDigit id) (leb-true (length id) 3)
+  where
+    pick : (a b c : Bool) → (b ≡ true → length id ≤ 3) → length (if (a && b) && c then id else ascii "ZZZ") ≤ 3
+    pick true true true h = h refl
+    pick true true false h = omega arith
+    pick true false c h = omega arith
+    pick false b c h = omega arith
+
+-- what a segment of a set can cause, in bytes
+abbrev perSegment : ℕ
+perSegment = 1100000
+
+module _ (d : Delimiters) where
+  missing-short : (n : ℕ) (es : List Entry) → length (out d (ak3s (missing n es))) ≤ 50 * load es
+  unfolding out ak3s missing keep load
+  missing-short n [] = omega arith
+  missing-short n (e ∷ es) = pick (e .mandatory) (keep (λ e. e .mandatory) es) (missing-short n es)
+    where
+      note : Entry → Note
+      note e = record { id = e .id; position = n; codes = 3 ∷ []; findings = [] }
+
+      pick : (b : Bool) (l : List Entry) → length (out d (ak3s (map note l))) ≤ 50 * load es
+          → length (out d (ak3s (map note (if b then e ∷ l else l)))) ≤ 50 * load (e ∷ es)
+      pick true l h = simp length-out-append (omega (arith, ak3-short d (note e)))
+      pick false l h = omega arith
+
+  noted-short : (id : Bytes) (n : ℕ) (cs : List ℕ) (fs : List Finding) → length id ≤ 3 → length cs ≤ 2
+      → length (out d (ak3s (noted id n cs fs))) ≤ 73 + 67 * length fs
+  unfolding ak3s out
+  noted-short id n [] fs h k = omega arith
+  noted-short id n (c ∷ cs) fs h k =
+      simp length-out-append (omega (arith, ak3-short d (record { id = id; position = n; codes = c ∷ cs; findings = fs })))
+
+  segmentNote-short : (n c : ℕ) (id : Bytes) (fs : List Finding) → length (out d (ak3s (segmentNote n c id fs))) ≤ 73 + 67 * length fs
+  unfolding segmentNote
+  segmentNote-short n c id fs =
+      let rules : List Rule = (not (eqb c 0) ⇒ c) ∷ (not (null fs) ⇒ 8) ∷ [] in
+      noted-short (echoed id) n (every rules) fs (echoed-short id) (every-short rules)
+
+  module _ (t : Table) (limited : Limited t) (closed : Bool) where
+    walk-short : (p : Place) → load (p .ahead) ≤ limit → (n : ℕ) (ss : List Segment)
+        → length (out d (ak3s (walk d t closed p n ss))) ≤ perSegment * (length ss + 1)
+    unfolding walk out ak3s
+    walk-short p h n [] =
+        let rest = drop 1 (p .ahead) in
+        either (λ (ns : List Note). length (out d (ak3s ns)) ≤ perSegment) closed
+        (omega arith)
+        (omega (arith, missing-short n (over (ascii "SE") rest), over-reach (ascii "SE") rest, rest-load (p .ahead)))
+    walk-short p h n (s ∷ ss) =
+        let st = standing t p (field s 0) in
+        let k : held st ≤ limit = standing-held t p (field s 0) limited h in
+        simp ak3s-append
+        (omega (
+          arith,
+          missing-short n (skipped st),
+          segmentNote-short n (ownCode st (p .used)) (field s 0) (findingsBy d (checkedBy st) s),
+          standing-short d st s,
+          walk-short (moved st p) (moved-held st p k h) (n + 1) ss,
+        ))
+
+-- 4. The sets of a group.
+-- what a set can cause besides: it has two segments more than its body, and may lack its trailer
+abbrev perSet : ℕ
+perSet = 3300300
+
+listed-short : (o : Option Segment) → length (listed o) ≤ 1
+listed-short none = omega arith
+listed-short (some s) = omega arith
+
+module _ (d : Delimiters) where
+  notesIn-short : (t : Option Table) → loadIn t ≤ limit → (s : Set) → length (out d (ak3s (notesIn d t s))) ≤ perSegment * (length (s .body) + 3)
+  unfolding notesOf ak3s out
+  notesIn-short none h s = omega arith
+  notesIn-short (some t) h s =
+      omega (
+        arith,
+        walk-short d t h (not (isNone (s .trailer))) (record { ahead = t .entries; used = 0 }) h 1 (segmentsOf s),
+        length-append (s .body) (listed (s .trailer)),
+        listed-short (s .trailer),
+      )
+
+  setCodes-short : (t : Option Table) (ns : List Note) (earlier : List Bytes) (s : Set) → length (setCodes t ns earlier s) ≤ 6
+  unfolding setCodes
+  setCodes-short t ns earlier s = every-short _
+
+  pub block-short : (t : Option Table) → loadIn t ≤ limit → (earlier : List Bytes) (s : Set)
+      → length (out d (block (setReport d t earlier s))) ≤ perSegment * length (s .body) + perSet + 2 * length (segmentOut d (s .header))
+  unfolding block setReport
+  block-short t h earlier s =
+      simp (out-cons d, length-out-append d, out-nil d)
+      (omega (
+        arith,
+        ak2-short d (setReport d t earlier s),
+        field-short d (s .header) 1,
+        field-short d (s .header) 2,
+        notesIn-short t h s,
+        ak5-short d (setReport d t earlier s),
+        setCodes-short t (notesIn d t s) earlier s,
+      ))
+
+  -- segments and their bytes
+  abbrev size : List Segment → ℕ
+  size ss = length ss + length (out d ss)
+
+  -- the segments before the next set are counted with those of the sets
+  sets-short : (gs : Segment) (earlier : List Bytes) (ss : List Segment)
+      → length (out d (blocks (setReports d gs earlier (setsOf ss)))) + perSegment * length (bodyOf ss) ≤ perSet * size ss
+  unfolding out blocks setReports setsOf bodyOf
+  sets-short gs earlier [] = omega arith
+  sets-short gs earlier (s ∷ ss) = pick (isST s) (isSE s) (λ es. sets-short gs es ss)
+    where
+      set : Set
+      set = record { header = s; body = bodyOf ss; trailer = trailerOf ss }
+
+      bytes : List Bytes → List Set → ℕ
+      bytes es sets = length (out d (blocks (setReports d gs es sets)))
+
+      pick : (b c : Bool) → ((es : List Bytes) → bytes es (setsOf ss) + perSegment * length (bodyOf ss) ≤ perSet * size ss)
+          → bytes earlier (if b then set ∷ setsOf ss else setsOf ss) + perSegment * length (if b || c then [] else s ∷ bodyOf ss)
+          ≤ perSet * size (s ∷ ss)
+      pick true c h =
+          simp (length-out-append d, out-cons d)
+          (omega (arith, block-short (tableIn gs set) (tableIn-limited gs set) earlier set, h (controlOf set ∷ earlier)))
+      pick false true h = simp (out-cons d) (omega (arith, h earlier))
+      pick false false h = simp (out-cons d) (omega (arith, h earlier))
+
+  -- 5. The segments of an interchange.
+  cutAt-short : (c : Bool) (b : ℕ) (s : Segment) → length (segmentOut d (cutAt c b s)) ≤ length (segmentOut d s) + 2
+  unfolding fieldsOut
+  cutAt-short true b [] = omega arith
+  cutAt-short true b (f ∷ fs) = simp length-append (omega arith)
+  cutAt-short false b [] = omega arith
+  cutAt-short false b (f ∷ fs) = simp length-append (omega arith)
+
+  segments-size : (i : Bytes) → size (segments d i) ≤ 4 * length i
+  unfolding segments pieces split out fieldsOut
+  segments-size [] = omega arith
+  segments-size (b ∷ i) = pick (eqb b (d .terminator)) (pieces (d .terminator) i) (segments-size i)
+    where
+      cut : List Bytes → List Segment
+      cut = map (split (d .element))
+
+      longer : (s : Segment) → length (segmentOut d (cutAt (eqb b (d .element)) b s)) ≤ length (segmentOut d s) + 2
+      longer = cutAt-short (eqb b (d .element)) b
+
+      pick : (c : Bool) (ps : List Bytes) → size (cut ps) ≤ 4 * length i → size (cut (cutAt c b ps)) ≤ 4 * length (b ∷ i)
+      pick true ps h = omega arith
+      pick false [] h = simp (out-cons d) (omega (arith, longer ([] ∷ [])))
+      pick false (p ∷ ps) h =
+          simp (out-cons d) (omega (arith, longer (split (d .element) p), out-cons d (split (d .element) p) (cut ps)))
+
+  front-size : (ss : List Segment) → size (front ss) ≤ size ss
+  unfolding front out
+  front-size [] = omega arith
+  front-size (s ∷ []) = omega arith
+  front-size (s ∷ (r ∷ ss)) = simp (out-cons d) (omega (arith, front-size (r ∷ ss), out-cons d r ss))
+
+  -- the second segment, and those after it
+  second-size : (ss : List Segment) → length (segmentOut d (getD ss 1 [])) + size (drop 2 ss) ≤ size ss
+  unfolding out
+  second-size [] = omega arith
+  second-size (s ∷ []) = omega arith
+  second-size (s ∷ (r ∷ ss)) = simp (out-cons d) (omega arith)
+
+  group-size : (ss : List Segment) → length (segmentOut d (groupOf ss .header)) + size (groupOf ss .body) ≤ size ss
+  unfolding groupOf groupWith
+  group-size ss =
+      let inner = front (drop 2 ss) in
+      either (λ (g : Group). length (segmentOut d (g .header)) + size (g .body) ≤ size ss) (isGE (last [] inner))
+      (omega (arith, second-size ss, front-size (drop 2 ss), front-size inner))
+      (omega (arith, second-size ss, front-size (drop 2 ss)))
+
+  -- 6. The response.
+  verdict-short : (codes : List ℕ) (received ok : ℕ) → length (verdict codes received ok) ≤ 1
+  verdict-short codes received ok =
+      let P : Bytes → Type 0 = λ bs. length bs ≤ 1 in
+      either P (not (null codes) || eqb ok 0) (omega arith) (either P (eqb ok received) (omega arith) (omega arith))
+
+  groupCodes-short : (g : Group) → length (groupCodes g) ≤ 5
+  unfolding groupCodes
+  groupCodes-short g = every-short _
+
+  told-short : (st02 : Bytes) (g : Group)
+      → length (out d (told st02 (groupReport d g))) ≤ 200 + length st02 + 2 * length (segmentOut d (g .header)) + perSet * size (g .body)
+  unfolding told stOut groupReport fieldsOut
+  told-short st02 g =
+      let r = groupReport d g in
+      simp (out-cons d, length-out-append d, out-nil d, length-append)
+      (omega (
+        arith,
+        ak1-short d r,
+        field-short d (g .header) 1,
+        field-short d (g .header) 6,
+        sets-short (g .header) [] (g .body),
+        ak9-short d r,
+        verdict-short (groupCodes g) (length (r .sets)) (acceptedIn (r .sets)),
+        groupCodes-short g,
+      ))
+
+  transactionSet-short : (st02 : Bytes) (g : Group)
+      → length (out d (transactionSet st02 (groupReport d g)))
+      ≤ 300 + 2 * length st02 + 2 * length (segmentOut d (g .header)) + perSet * size (g .body)
+  unfolding transactionSet seOut fieldsOut
+  transactionSet-short st02 g =
+      simp (length-out-append d, out-cons d, out-nil d, length-append)
+      (omega (arith, told-short st02 g, decimal-short (length (told st02 (groupReport d g)) + 1)))
+
+pub response-bound : (i : Bytes) (date time control : ℕ) → length i ≤ 65536 → length (response i date time control) < 1099511627776
+unfolding response respond geOut ieaOut fieldsOut
+response-bound i date time control h =
+    let d = delimiters i in
+    let g = groupOf (segments d i) in
+    simp (length-out-append d, out-cons d, out-nil d, length-append, padded-length)
+    (omega (
+      arith,
+      isaOut-short d i date time control,
+      gsOut-short d (g .header) date time control,
+      transactionSet-short d (ascii "0001") g,
+      group-size d (segments d i),
+      segments-size d i,
+      decimal-short 1,
+      decimal-short control,
+    ))

@@ -1,0 +1,83 @@
+-- What the definitions promise: one outcome for each call, a verdict by the codes alone, and counts that count.
+use mathlib.Core.Path.{_≡_, refl, sym, _∙_, ap}
+use mathlib.Core.Bool.{Bool, true, false, _&&_, false≢true}
+use mathlib.Core.List.{List, [], _∷_, _++_, append-nil}
+use Prim.Native.Nat.{ℕ, zero, suc, _+_, _≤_}
+use native.Mathlib.Omega.{arith}
+use native.Mathlib.Numerals.{add-one}
+use borrow.Author.Tests.{leb-true}
+use lib.Dec.{leb}
+use lib.ListN.{length, length-append}
+use Rattle.rules.specs.Base.{Bytes, ascii, null, same, all, keep, last, Rule, _⇒_, first, if_then_else_}
+use Rattle.rules.specs.Cutting.{Segment, field}
+use Rattle.rules.specs.Numbers.{decimal}
+use Rattle.rules.specs.Sets.{Set, controlOf, setReport, SetReport, accepted}
+use Rattle.rules.specs.Groups.{Group, sets, tableIn, setReports, acceptedIn, GroupReport, groupReport}
+use Rattle.rules.specs.Refusals.{callRules, headRules, endRules, envelopeRules, trailerRules, groupRules, answerRules, setRules, refusalRules, refusal}
+use Rattle.rules.specs.Response.{ak5, seOut, told, transactionSet}
+use Rattle.rules.specs.Answers.{Allowed, answer, buffer, outcome}
+use Rattle.rules.specs.declared.Answer.{Answer}
+use Rattle.rules.specs.declared.Delimiters.{Delimiters}
+use Rattle.rules.proofs.Logic.{and-left, and-right, last-snoc}
+
+-- 1. Two allowed outcomes coincide: the answer, and with it number and length, and every byte of the buffer.
+module _ (i lent : Bytes) (date time control : ℕ) (a₁ a₂ : Answer) (l₁ l₂ : Bytes)
+    (p : Allowed i lent date time control a₁ l₁) (q : Allowed i lent date time control a₂ l₂) where
+  pub once : outcome a₁ l₁ ≡ outcome a₂ l₂
+  unfolding Allowed
+  once = rw (p .1, q .1, p .0, q .0)
+
+  pub once-answer : a₁ ≡ a₂
+  unfolding Allowed
+  once-answer = p .0 ∙ sym (q .0)
+
+-- 2. A set is accepted exactly when it has no code.
+pub accepted-without : (r : SetReport) → r .codes ≡ [] → accepted r ≡ true
+accepted-without r e = rw e
+
+no-codes : (cs : List ℕ) → null cs ≡ true → cs ≡ []
+no-codes [] e = refl
+no-codes (c ∷ cs) e = absurd (false≢true e)
+
+pub without-codes : (r : SetReport) → accepted r ≡ true → r .codes ≡ []
+without-codes r e = no-codes (r .codes) e
+
+-- 3. AK903 is the number of sets, and each has its report; AK904 is the number of accepted ones, or 0 under AK901 R.
+reports-count : (d : Delimiters) (gs : Segment) (earlier : List Bytes) (ss : List Set) → length (setReports d gs earlier ss) ≡ length ss
+unfolding setReports
+reports-count d gs earlier [] = refl
+reports-count d gs earlier (s ∷ ss) = ap suc (reports-count d gs (controlOf s ∷ earlier) ss)
+
+module _ (d : Delimiters) (g : Group) where
+  pub received-counts : groupReport d g .received ≡ length (sets g)
+  unfolding groupReport
+  received-counts = refl
+
+  pub every-reported : length (groupReport d g .sets) ≡ length (sets g)
+  unfolding groupReport
+  every-reported = reports-count d (g .header) [] (sets g)
+
+  pub allowed-counts : groupReport d g .allowed ≡ if same (groupReport d g .verdict) (ascii "R") then 0 else acceptedIn (groupReport d g .sets)
+  unfolding groupReport
+  allowed-counts = refl
+
+-- 4. SE01 of the response is the number of segments from ST to SE.
+pub segments-counted : (st02 : Bytes) (g : GroupReport) → field (last [] (transactionSet st02 g)) 1 ≡ decimal (length (transactionSet st02 g))
+unfolding transactionSet seOut
+segments-counted st02 g =
+    rw (last-snoc [] (told st02 g) (seOut (length (told st02 g) + 1) st02), length-append (told st02 g) (seOut (length (told st02 g) + 1) st02 ∷ []))
+
+-- 5. A refusal number is at most 13.
+abbrev low : List Rule → Bool
+low [] = true
+low ((b ⇒ n) ∷ rs) = leb n 13 && low rs
+
+first-low : (rs : List Rule) → low rs ≡ true → first rs ≤ 13
+unfolding first
+first-low [] e = omega arith
+first-low ((true ⇒ n) ∷ rs) e = leb-true n 13 (and-left (leb n 13) (low rs) e)
+first-low ((false ⇒ n) ∷ rs) e = first-low rs (and-right (leb n 13) (low rs) e)
+
+pub refusal-low : (i : Bytes) (date time control : ℕ) → refusal i date time control ≤ 13
+unfolding refusal refusalRules callRules headRules endRules envelopeRules trailerRules groupRules answerRules setRules
+refusal-low i date time control = first-low (refusalRules i date time control) refl

@@ -1,0 +1,153 @@
+-- How long the parts of a response are: numbers, lists of codes, and each segment by what it is made of.
+use Prim.Native.Nat.{ℕ, zero, suc, _+_, _*_, _/_, _≤_}
+use mathlib.Core.Path.{_≡_, refl}
+use mathlib.Core.Bool.{Bool, true, false}
+use mathlib.Core.List.{List, [], _∷_, _++_, map}
+use native.Mathlib.Omega.{arith}
+use lib.Dec.{ltb, eqb}
+use lib.ListN.{length, length-append, length-drop, length-take}
+use Rattle.rules.specs.Base.{Bytes, Rule, _⇒_, every, ascii, if_then_else_}
+use Rattle.rules.specs.Cutting.{Segment, field, separators, fieldsAt, isa}
+use Rattle.rules.specs.Numbers.{padded, digitsOf, decimal}
+use Rattle.rules.specs.Segments.{Note}
+use Rattle.rules.specs.Sets.{SetReport, accepted}
+use Rattle.rules.specs.Groups.{GroupReport}
+use Rattle.rules.specs.Response.{fieldsOut, segmentOut, out, ak4, ak3, ak3s, ak2, ak5, ak1, ak9, isaOut, gsOut}
+use Rattle.rules.specs.declared.Delimiters.{Delimiters}
+use Rattle.rules.specs.declared.Finding.{Finding}
+
+-- what holds of both branches
+pub either : {A : Type 0} (P : A → Type 0) (b : Bool) {x y : A} → P x → P y → P (if b then x else y)
+either P true p q = p
+either P false p q = q
+
+pub if-short : (b : Bool) (x y : Bytes) → length (if b then x else y) ≤ length x + length y
+if-short true x y = omega arith
+if-short false x y = omega arith
+
+-- 1. Numbers and codes.
+pub padded-length : (w n : ℕ) → length (padded w n) ≡ w
+unfolding padded
+padded-length zero n = refl
+padded-length (suc w) n = simp length-append (omega (arith, padded-length w (n / 10)))
+
+digitsOf-short : (f n : ℕ) → length (digitsOf f n) ≤ suc f
+unfolding digitsOf
+digitsOf-short zero n = omega arith
+digitsOf-short (suc f) n =
+    either (λ (bs : Bytes). length bs ≤ suc (suc f)) (ltb n 10)
+    (omega arith)
+    (simp length-append (omega (arith, digitsOf-short f (n / 10))))
+
+pub decimal-short : (n : ℕ) → length (decimal n) ≤ 20
+unfolding decimal
+decimal-short n = digitsOf-short 19 n
+
+pub every-short : (rs : List Rule) → length (every rs) ≤ length rs
+unfolding every
+every-short [] = omega arith
+every-short ((true ⇒ n) ∷ rs) = omega (arith, every-short rs)
+every-short ((false ⇒ n) ∷ rs) = omega (arith, every-short rs)
+
+module _ (d : Delimiters) where
+  codes-short : (cs : List ℕ) → length (fieldsOut d (map decimal cs)) ≤ 21 * length cs
+  unfolding fieldsOut
+  codes-short [] = omega arith
+  codes-short (c ∷ cs) = simp length-append (omega (arith, decimal-short c, codes-short cs))
+
+  -- 2. Segments, and a field of one.
+  pub out-nil : length (out d []) ≡ 0
+  unfolding out
+  out-nil = refl
+
+  pub out-cons : (s : Segment) (ss : List Segment) → length (out d (s ∷ ss)) ≡ length (segmentOut d s) + length (out d ss)
+  unfolding out
+  out-cons s ss = length-append (segmentOut d s) (out d ss)
+
+  pub length-out-append : (a b : List Segment) → length (out d (a ++ b)) ≡ length (out d a) + length (out d b)
+  unfolding out
+  length-out-append [] b = omega arith
+  length-out-append (s ∷ a) b = simp length-append (omega (arith, length-out-append a b))
+
+  fieldsOut-short : (fs : List Bytes) (n : ℕ) → length (field fs n) ≤ length (fieldsOut d fs)
+  unfolding fieldsOut
+  fieldsOut-short [] n = omega arith
+  fieldsOut-short (f ∷ fs) zero = simp length-append (omega arith)
+  fieldsOut-short (f ∷ fs) (suc n) = simp length-append (omega (arith, fieldsOut-short fs n))
+
+  pub field-short : (s : Segment) (n : ℕ) → length (field s n) ≤ length (segmentOut d s)
+  field-short [] n = omega arith
+  field-short (f ∷ fs) zero = simp length-append (omega arith)
+  field-short (f ∷ fs) (suc n) = simp length-append (omega (arith, fieldsOut-short fs n))
+
+  -- 3. AK1 to AK9.
+  ak4-short : (f : Finding) → length (segmentOut d (ak4 f)) ≤ 67
+  unfolding ak4 fieldsOut
+  ak4-short f =
+      simp length-append
+      (omega (
+        arith,
+        decimal-short (f .place),
+        if-short (eqb (f .reference) 0) [] (decimal (f .reference)),
+        decimal-short (f .reference),
+        decimal-short (f .code),
+      ))
+
+  ak4s-short : (fs : List Finding) → length (out d (map ak4 fs)) ≤ 67 * length fs
+  unfolding out
+  ak4s-short [] = omega arith
+  ak4s-short (f ∷ fs) = simp length-append (omega (arith, ak4-short f, ak4s-short fs))
+
+  pub ak3-short : (n : Note) → length (out d (ak3 n)) ≤ 28 + length (n .id) + 21 * length (n .codes) + 67 * length (n .findings)
+  unfolding out ak3 fieldsOut
+  ak3-short n =
+      simp length-append
+      (omega (arith, decimal-short (n .position), codes-short (n .codes), ak4s-short (n .findings)))
+
+  pub ak3s-append : (a b : List Note) → length (out d (ak3s (a ++ b))) ≡ length (out d (ak3s a)) + length (out d (ak3s b))
+  unfolding out ak3s
+  ak3s-append [] b = omega arith
+  ak3s-append (n ∷ a) b = simp length-out-append (omega (arith, ak3s-append a b))
+
+  pub ak2-short : (r : SetReport) → length (segmentOut d (ak2 r)) ≤ 6 + length (r .st01) + length (r .st02)
+  unfolding ak2 fieldsOut
+  ak2-short r = simp length-append (omega arith)
+
+  pub ak5-short : (r : SetReport) → length (segmentOut d (ak5 r)) ≤ 7 + 21 * length (r .codes)
+  unfolding ak5 fieldsOut
+  ak5-short r =
+      simp length-append (omega (arith, if-short (accepted r) (ascii "A") (ascii "R"), codes-short (r .codes)))
+
+  pub ak1-short : (r : GroupReport) → length (segmentOut d (ak1 r)) ≤ 6 + length (r .gs01) + length (r .gs06)
+  unfolding ak1 fieldsOut
+  ak1-short r = simp length-append (omega arith)
+
+  pub ak9-short : (r : GroupReport) → length (segmentOut d (ak9 r)) ≤ 68 + length (r .verdict) + 21 * length (r .codes)
+  unfolding ak9 fieldsOut
+  ak9-short r =
+      simp length-append
+      (omega (
+        arith,
+        decimal-short (r .declared),
+        decimal-short (r .received),
+        decimal-short (r .allowed),
+        codes-short (r .codes),
+      ))
+
+  -- 4. The envelope.
+  fieldsAt-short : (start : ℕ) (es : List ℕ) (i : Bytes) (n : ℕ) → length (field (fieldsAt start es i) n) ≤ length i
+  unfolding fieldsAt
+  fieldsAt-short start [] i n = omega arith
+  fieldsAt-short start (e ∷ es) i zero = simp (length-drop, length-take) (omega arith)
+  fieldsAt-short start (e ∷ es) i (suc n) = fieldsAt-short (e + 1) es i n
+
+  pub isaOut-short : (i : Bytes) (date time control : ℕ) → length (segmentOut d (isaOut d (isa i) date time control)) ≤ 80 + 5 * length i
+  unfolding isaOut fieldsOut isa
+  isaOut-short i date time control =
+      let short = fieldsAt-short 0 separators i in
+      simp (length-append, padded-length) (omega (arith, short 5, short 6, short 7, short 8, short 15))
+
+  pub gsOut-short : (gs : Segment) (date time control : ℕ) → length (segmentOut d (gsOut gs date time control)) ≤ 60 + 2 * length (segmentOut d gs)
+  unfolding gsOut fieldsOut
+  gsOut-short gs date time control =
+      simp (length-append, padded-length) (omega (arith, field-short gs 2, field-short gs 3, decimal-short control))

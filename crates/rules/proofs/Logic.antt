@@ -1,0 +1,138 @@
+-- Laws of tests, lists and rules that hold whatever they are about.
+use mathlib.Core.Path.{_≡_, refl, sym, ap, subst⁻¹}
+use mathlib.Core.Bool.{Bool, true, false, _&&_, _||_, not, false≢true, true≢false}
+use mathlib.Core.List.{List, [], _∷_, _++_}
+use Prim.Native.Nat.{ℕ}
+use borrow.Author.Tests.{eqb-true, eq-eqb, not-true}
+use lib.Dec.{T, T-not, eqb}
+use Rattle.rules.specs.Base.{Bytes, same, all, any, front, last, Rule, _⇒_, first}
+
+pub and-left : (a b : Bool) → a && b ≡ true → a ≡ true
+and-left true b e = refl
+and-left false b e = e
+
+pub and-right : (a b : Bool) → a && b ≡ true → b ≡ true
+and-right true b e = e
+and-right false b e = absurd (false≢true e)
+
+pub or-left : (a b : Bool) → a || b ≡ false → a ≡ false
+or-left false b e = refl
+or-left true b e = absurd (true≢false e)
+
+pub or-right : (a b : Bool) → a || b ≡ false → b ≡ false
+or-right false b e = e
+or-right true b e = absurd (true≢false e)
+
+pub same→eq : (a b : Bytes) → same a b ≡ true → a ≡ b
+unfolding same
+same→eq [] [] e = refl
+same→eq [] (y ∷ b) e = absurd (false≢true e)
+same→eq (x ∷ a) [] e = absurd (false≢true e)
+same→eq (x ∷ a) (y ∷ b) e =
+    rw (eqb-true x y (and-left (eqb x y) (same a b) e), same→eq a b (and-right (eqb x y) (same a b) e))
+
+pub same-refl : (a : Bytes) → same a a ≡ true
+unfolding same
+same-refl [] = refl
+same-refl (x ∷ a) = rw (eq-eqb x x refl, same-refl a)
+
+module _ {A : Type 0} (p : A → Bool) where
+  pub all-head : (x : A) (xs : List A) → all p (x ∷ xs) ≡ true → p x ≡ true
+  unfolding all
+  all-head x xs e = and-left (p x) (all p xs) e
+
+  pub all-tail : (x : A) (xs : List A) → all p (x ∷ xs) ≡ true → all p xs ≡ true
+  unfolding all
+  all-tail x xs e = and-right (p x) (all p xs) e
+
+  pub all-cons : (x : A) (xs : List A) → p x ≡ true → all p xs ≡ true → all p (x ∷ xs) ≡ true
+  unfolding all
+  all-cons x xs e f = rw e f
+
+  pub all-append : (xs ys : List A) → all p xs ≡ true → all p ys ≡ true → all p (xs ++ ys) ≡ true
+  all-append [] ys e f = f
+  all-append (x ∷ xs) ys e f = all-cons x (xs ++ ys) (all-head x xs e) (all-append xs ys (all-tail x xs e) f)
+
+  pub all-left : (xs ys : List A) → all p (xs ++ ys) ≡ true → all p xs ≡ true
+  unfolding all
+  all-left [] ys e = refl
+  all-left (x ∷ xs) ys e = all-cons x xs (all-head x (xs ++ ys) e) (all-left xs ys (all-tail x (xs ++ ys) e))
+
+  pub all-right : (xs ys : List A) → all p (xs ++ ys) ≡ true → all p ys ≡ true
+  all-right [] ys e = e
+  all-right (x ∷ xs) ys e = all-right xs ys (all-tail x (xs ++ ys) e)
+
+  -- what passes one test passes another that follows from it
+  pub all-weaken : (q : A → Bool) → ((x : A) → p x ≡ true → q x ≡ true) → (xs : List A) → all p xs ≡ true → all q xs ≡ true
+  unfolding all
+  all-weaken q h [] e = refl
+  all-weaken q h (x ∷ xs) e = rw (h x (all-head x xs e)) (all-weaken q h xs (all-tail x xs e))
+
+module _ {A : Type 0} where
+  -- a list is all but its last, and its last
+  pub front-last : (d x : A) (xs : List A) → front (x ∷ xs) ++ last d (x ∷ xs) ∷ [] ≡ x ∷ xs
+  unfolding front last
+  front-last d x [] = refl
+  front-last d x (y ∷ ys) = ap (λ (l : List A). x ∷ l) (front-last x y ys)
+
+  pub front-snoc : (xs : List A) (x : A) → front (xs ++ x ∷ []) ≡ xs
+  unfolding front
+  front-snoc [] x = refl
+  front-snoc (y ∷ []) x = refl
+  front-snoc (y ∷ (z ∷ zs)) x = ap (λ (l : List A). y ∷ l) (front-snoc (z ∷ zs) x)
+
+  pub last-snoc : (d : A) (xs : List A) (x : A) → last d (xs ++ x ∷ []) ≡ x
+  unfolding last
+  last-snoc d [] x = refl
+  last-snoc d (y ∷ ys) x = last-snoc y ys x
+
+  -- the last of a list passes a test that all pass
+  pub last-all : (p : A → Bool) (d : A) (xs : List A) → p d ≡ true → all p xs ≡ true → p (last d xs) ≡ true
+  unfolding last
+  last-all p d [] e f = e
+  last-all p d (x ∷ xs) e f = last-all p x xs (all-head p x xs f) (all-tail p x xs f)
+
+-- 2. Rules.
+pub both-left : (a b : Bool) → T (a && b) → T a
+both-left true b t = tt
+both-left false b t = t
+
+pub both-right : (a b : Bool) → T (a && b) → T b
+both-right true b t = t
+both-right false b t = absurd t
+
+-- no rule of the list gives 0
+abbrev pub numbered : List Rule → Bool
+numbered [] = true
+numbered ((b ⇒ n) ∷ rs) = not (eqb n 0) && numbered rs
+
+-- the first number of two blocks of rules: that of the first block, or where it has none, that of the second
+abbrev pub orElse : ℕ → Bool → ℕ → ℕ
+orElse n true m = m
+orElse n false m = n
+
+pub first-append : (rs ss : List Rule) → T (numbered rs) → first (rs ++ ss) ≡ orElse (first rs) (eqb (first rs) 0) (first ss)
+unfolding first
+first-append [] ss t = refl
+first-append ((true ⇒ n) ∷ rs) ss t = rw (nonzero n (both-left (not (eqb n 0)) (numbered rs) t))
+  where
+    nonzero : (n : ℕ) → T (not (eqb n 0)) → eqb n 0 ≡ false
+    nonzero n u = go (eqb n 0) refl u
+      where
+        go : (c : Bool) → eqb n 0 ≡ c → T (not c) → eqb n 0 ≡ false
+        go true e u = absurd u
+        go false e u = e
+first-append ((false ⇒ n) ∷ rs) ss t = first-append rs ss (both-right (not (eqb n 0)) (numbered rs) t)
+
+-- no rule of the list applies
+abbrev pub Silent : List Rule → Type 0
+Silent [] = Unit {0}
+Silent ((b ⇒ n) ∷ rs) = (b ≡ false) × Silent rs
+
+-- where the first number is 0, no rule applies
+pub silent : (rs : List Rule) → T (numbered rs) → first rs ≡ 0 → Silent rs
+unfolding first
+silent [] t e = tt
+silent ((true ⇒ n) ∷ rs) t e =
+    absurd (T-not (eqb n 0) (both-left (not (eqb n 0)) (numbered rs) t) (subst⁻¹ (λ (m : ℕ). T (eqb m 0)) e tt))
+silent ((false ⇒ n) ∷ rs) t e = (refl, silent rs (both-right (not (eqb n 0)) (numbered rs) t) e)
