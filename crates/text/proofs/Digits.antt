@@ -11,8 +11,9 @@ use lib.Dec.{leb, lit<}
 use lib.ListN.{length, getD, drop, drop-of-length-le}
 use Rattle.rules.specs.Base.{Bytes, between, isDigit, all, if_then_else_}
 use Rattle.rules.specs.Numbers.{digits, valueFrom, value}
+use Rattle.rules.proofs.Logic.{and-left, and-right, all-head, all-tail}
 use Rattle.text.specs.Text.{upToTen}
-use Rattle.text.proofs.Loops.{and-left, and-right, left-cons}
+use Rattle.text.proofs.Loops.{left-cons}
 
 pub between-true : (lo hi n : ℕ) → between lo hi n ≡ true → (lo ≤ n) × (n ≤ hi)
 between-true lo hi n e =
@@ -52,11 +53,11 @@ pub below-ten : (n i : ℕ) → n < 10 ^ i → i ≤ 10 → n < 10000000000
 below-ten n i h k = lt-of-lt-of-le h (pow-le-pow-right {n = 10} (lit< tt) {i = i} {j = 10} k)
 
 below-from : (n i : ℕ) (s : Bytes) → n < 10 ^ i → all isDigit s ≡ true → valueFrom n s < 10 ^ (i + length s)
-unfolding all valueFrom
+unfolding valueFrom
 below-from n i [] h e = rw add-zero h
 below-from n i (b ∷ bs) h e =
-    let d = between-true 48 57 b (and-left (isDigit b) (all isDigit bs) e) in
-    let r = below-from (n * 10 + (b - 48)) (i + 1) bs (below-more n (b - 48) i h (omega arith)) (and-right (isDigit b) (all isDigit bs) e) in
+    let d = between-true 48 57 b (all-head isDigit b bs e) in
+    let r = below-from (n * 10 + (b - 48)) (i + 1) bs (below-more n (b - 48) i h (omega arith)) (all-tail isDigit b bs e) in
     let l : i + suc (length bs) ≡ i + 1 + length bs = omega arith in
     rw l r
 
