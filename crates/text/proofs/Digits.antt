@@ -11,12 +11,21 @@ use lib.Dec.{leb, lit<}
 use lib.ListN.{length, getD, drop, drop-of-length-le}
 use Rattle.rules.specs.Base.{Bytes, between, isDigit, all, if_then_else_}
 use Rattle.rules.specs.Numbers.{digits, valueFrom, value}
+use Rattle.rules.proofs.Logic.{and-left, and-right, all-head, all-tail}
 use Rattle.text.specs.Text.{upToTen}
-use Rattle.text.proofs.Loops.{and-left, and-right, left-cons}
+use Rattle.text.proofs.Loops.{left-cons}
 
 pub between-true : (lo hi n : ℕ) → between lo hi n ≡ true → (lo ≤ n) × (n ≤ hi)
 between-true lo hi n e =
     (leb-true lo n (and-left (leb lo n) (leb n hi) e), leb-true n hi (and-right (leb lo n) (leb n hi) e))
+
+-- the byte at i is a digit
+pub record DigitAt (s : Bytes) (i : ℕ) : Type 0 where
+  pub low : 48 ≤ getD s i 0
+  pub high : getD s i 0 ≤ 57
+
+pub digit-at : (s : Bytes) (i : ℕ) → isDigit (getD s i 0) ≡ true → DigitAt s i
+digit-at s i e = let b = between-true 48 57 (getD s i 0) e in record { low = b .0; high = b .1 }
 
 module _ (lo hi : ℕ) (s : Bytes) (e : digits lo hi s ≡ true) where
   pub digits-length : (lo ≤ length s) × (length s ≤ hi)
@@ -44,11 +53,11 @@ pub below-ten : (n i : ℕ) → n < 10 ^ i → i ≤ 10 → n < 10000000000
 below-ten n i h k = lt-of-lt-of-le h (pow-le-pow-right {n = 10} (lit< tt) {i = i} {j = 10} k)
 
 below-from : (n i : ℕ) (s : Bytes) → n < 10 ^ i → all isDigit s ≡ true → valueFrom n s < 10 ^ (i + length s)
-unfolding all valueFrom
+unfolding valueFrom
 below-from n i [] h e = rw add-zero h
 below-from n i (b ∷ bs) h e =
-    let d = between-true 48 57 b (and-left (isDigit b) (all isDigit bs) e) in
-    let r = below-from (n * 10 + (b - 48)) (i + 1) bs (below-more n (b - 48) i h (omega arith)) (and-right (isDigit b) (all isDigit bs) e) in
+    let d = between-true 48 57 b (all-head isDigit b bs e) in
+    let r = below-from (n * 10 + (b - 48)) (i + 1) bs (below-more n (b - 48) i h (omega arith)) (all-tail isDigit b bs e) in
     let l : i + suc (length bs) ≡ i + 1 + length bs = omega arith in
     rw l r
 

@@ -1,22 +1,14 @@
 -- A loop over a list at a cursor: what is left at one place is the element there and what is left at the next.
-use Prim.Native.Nat.{ℕ, zero, suc, _+_, _<_, _≤_}
+use Prim.Native.Nat.{ℕ, suc, _+_, _<_, _≤_}
 use mathlib.Core.Path.{_≡_, refl, ap}
-use mathlib.Core.Bool.{Bool, true, false, _&&_, _||_, false≢true}
+use mathlib.Core.Bool.{Bool, true, false, _&&_, _||_}
 use mathlib.Core.List.{List, [], _∷_}
-use native.Mathlib.Nat.{not-suc-le-zero, le-of-suc-le-suc}
 use native.Mathlib.Numerals.{add-one}
 use lib.Dec.{eqb}
-use lib.ListN.{length, getD, take, drop, drop-of-length-le}
+use lib.ListN.{length, getD, take, drop, drop-of-length-le, take-append-drop}
 use lib.Seq.{drop-cons}
 use Rattle.rules.specs.Base.{Bytes, same, all, any}
-
-pub and-left : (a b : Bool) → a && b ≡ true → a ≡ true
-and-left true b e = refl
-and-left false b e = e
-
-pub and-right : (a b : Bool) → a && b ≡ true → b ≡ true
-and-right true b e = e
-and-right false b e = absurd (false≢true e)
+use Rattle.rules.proofs.Logic.{all-left, all-right}
 
 pub and-false : (a : Bool) → a && false ≡ false
 and-false true = refl
@@ -26,6 +18,7 @@ pub or-false : (a : Bool) → a || false ≡ a
 or-false true = refl
 or-false false = refl
 
+-- the law of a cursor
 pub left-cons : (s : Bytes) (i : ℕ) → i < length s → drop i s ≡ getD s i 0 ∷ drop (i + 1) s
 left-cons s i h = rw add-one (drop-cons s i 0 h)
 
@@ -48,25 +41,13 @@ module _ {A : Type 0} (p : A → Bool) (xs : List A) (k : ℕ) (h : length xs �
   unfolding any
   any-end = rw (drop-of-length-le xs {i = k} h)
 
--- what all pass, each passes, and so do all of a part
-module _ {A : Type 0} (p : A → Bool) where
-  pub all-at : (xs : List A) (d : A) (k : ℕ) → all p xs ≡ true → k < length xs → p (getD xs k d) ≡ true
-  unfolding all
-  all-at [] d k e h = absurd (not-suc-le-zero h)
-  all-at (x ∷ xs) d zero e h = and-left (p x) (all p xs) e
-  all-at (x ∷ xs) d (suc k) e h = all-at xs d k (and-right (p x) (all p xs) e) (le-of-suc-le-suc h)
+-- what all pass, all of a part pass
+module _ {A : Type 0} (p : A → Bool) (k : ℕ) (xs : List A) (e : all p xs ≡ true) where
+  pub all-take : all p (take k xs) ≡ true
+  all-take = all-left p (take k xs) (drop k xs) (rw take-append-drop e)
 
-  pub all-drop : (k : ℕ) (xs : List A) → all p xs ≡ true → all p (drop k xs) ≡ true
-  unfolding all
-  all-drop zero xs e = e
-  all-drop (suc k) [] e = e
-  all-drop (suc k) (x ∷ xs) e = all-drop k xs (and-right (p x) (all p xs) e)
-
-  pub all-take : (k : ℕ) (xs : List A) → all p xs ≡ true → all p (take k xs) ≡ true
-  unfolding all
-  all-take zero xs e = refl
-  all-take (suc k) [] e = refl
-  all-take (suc k) (x ∷ xs) e = rw (and-left (p x) (all p xs) e) (all-take k xs (and-right (p x) (all p xs) e))
+  pub all-drop : all p (drop k xs) ≡ true
+  all-drop = all-right p (take k xs) (drop k xs) (rw take-append-drop e)
 
 -- two byte strings: the bytes at k are equal as q says, and the rest decides
 pub same-step : (a b : Bytes) (k : ℕ) (q : Bool) → k < length a → k < length b → eqb (getD a k 0) (getD b k 0) ≡ q

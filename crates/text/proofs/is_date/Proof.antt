@@ -1,10 +1,10 @@
 -- `text::is_date` meets its contract.
 use mathlib.Core.Path.{ap, sym, _∙_}
+use native.Mathlib.Omega.{arith}
+use borrow.Author.Needs.{needs}
 use lib.Dec.{lit≤}
 use Rattle.rules.specs.Numbers as numbers
 use Rattle.text.proofs.Digits.{value-of, value-below}
-use native.Mathlib.Omega.{arith}
-use borrow.Author.Needs.{needs}
 use Rattle.text.proofs.is_date.Statement.{statement}
 use Rattle.text.proofs.is_date.Tie as tie
 
@@ -16,16 +16,19 @@ value-requires c κs = search needs
 
 cast-is-day : tie.Need-cast-is-day
 cast-is-day c =
-    let s = c .before .before .before .before .args .s .now in
     let e = sym (c .before .before .is-digits .ensures) ∙ c .before .if1 .taken in
-    omega (arith, c .value .ensures, value-of 8 8 s e (lit≤ tt), value-below 8 8 s e)
+    let v = c .value .ensures ∙ value-of _ _ _ e (lit≤ tt) in
+    let b = value-below _ _ _ e in
+    omega arith
 
 is-day-requires : tie.Need-is-day-requires
 is-day-requires c κs = search needs
 
 returns : tie.Need-returns
 unfolding numbers.isDate
-returns c = let e = sym (c .before .before .before .is-digits .ensures) ∙ c .before .before .if1 .taken in rw e (c .is-day .ensures ∙ ap numbers.isDay (c .before .value .ensures ∙ value-of 8 8 _ e (lit≤ tt)))
+returns c =
+    let e = sym (c .before .before .before .is-digits .ensures) ∙ c .before .before .if1 .taken in
+    rw e (c .is-day .ensures ∙ ap numbers.isDay (c .before .value .ensures ∙ value-of _ _ _ e (lit≤ tt)))
 
 returns-2 : tie.Need-returns-2
 unfolding numbers.isDate

@@ -1,7 +1,7 @@
 -- `text::is_day` meets its contract.
 use mathlib.Core.Path.{sym, _∙_}
-use Rattle.rules.specs.Numbers.{isDay}
 use borrow.Author.Needs.{needs}
+use Rattle.rules.specs.Numbers.{isDay}
 use Rattle.text.proofs.is_day.Statement.{statement}
 use Rattle.text.proofs.is_day.Tie as tie
 

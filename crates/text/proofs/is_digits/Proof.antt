@@ -1,7 +1,7 @@
 -- `text::is_digits` meets its contract.
 use mathlib.Core.Path.{sym, _∙_}
-use Rattle.rules.specs.Numbers.{digits}
 use borrow.Author.Needs.{needs}
+use Rattle.rules.specs.Numbers.{digits}
 use Rattle.text.proofs.is_digits.Statement.{statement}
 use Rattle.text.proofs.is_digits.Tie as tie
 

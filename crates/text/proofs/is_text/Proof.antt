@@ -1,7 +1,7 @@
 -- `text::is_text` meets its contract.
 use mathlib.Core.Path.{sym, _∙_}
-use Rattle.rules.specs.Cutting.{text}
 use borrow.Author.Needs.{needs}
+use Rattle.rules.specs.Cutting.{text}
 use Rattle.text.proofs.is_text.Statement.{statement}
 use Rattle.text.proofs.is_text.Tie as tie
 

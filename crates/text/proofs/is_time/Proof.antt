@@ -1,13 +1,12 @@
 -- `text::is_time` meets its contract.
-use borrow.Author.Tests.{eq-eqb}
 use mathlib.Core.Path.{_≡_, refl, sym, _∙_}
 use mathlib.Core.Bool.{true, false, _||_}
-use borrow.Author.Tests.{le-leb, lt-leb, not-true, not-false}
+use native.Mathlib.Omega.{arith}
+use borrow.Author.Tests.{eq-eqb, le-leb, lt-leb, not-true, not-false}
+use borrow.Author.Needs.{needs}
 use lib.Dec.{leb}
 use Rattle.rules.specs.Numbers.{digits, two}
 use Rattle.text.proofs.Times.{TimeDigits, time-digits, time-by, pair, two-none}
-use native.Mathlib.Omega.{arith}
-use borrow.Author.Needs.{needs}
 use Rattle.text.proofs.is_time.Statement.{statement}
 use Rattle.text.proofs.is_time.Tie as tie
 

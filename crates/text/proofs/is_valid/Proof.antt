@@ -1,8 +1,8 @@
 -- `text::is_valid` meets its contract.
-use Rattle.text.proofs.Loops.{or-false}
 use borrow.Author.Tests.{le-leb, lt-leb, eq-eqb, ne-eqb}
 use Rattle.rules.specs.Base.{any}
 use Rattle.rules.specs.Cutting.{valid, marks}
+use Rattle.text.proofs.Loops.{or-false}
 use Rattle.text.proofs.is_valid.Statement.{statement}
 use Rattle.text.proofs.is_valid.Tie as tie
 

@@ -1,13 +1,13 @@
 -- `text::same_bytes` meets its contract.
-use borrow.Author.Needs.{needs}
-use mathlib.Core.Path.{_≡_, sym, _∙_}
 use Prim.Native.Nat.{_-_}
+use mathlib.Core.Path.{_≡_, sym, _∙_}
+use mathlib.Core.Bool.{true, false}
+use native.Mathlib.Omega.{arith}
+use borrow.Author.Needs.{needs}
 use borrow.Author.Tests.{eq-eqb, ne-eqb}
 use lib.ListN.{length, drop}
 use Rattle.rules.specs.Base.{same}
 use Rattle.text.proofs.Loops.{same-step, same-end, same-lengths}
-use mathlib.Core.Bool.{true, false}
-use native.Mathlib.Omega.{arith}
 use Rattle.text.proofs.same_bytes.Statement.{statement}
 use Rattle.text.proofs.same_bytes.Tie as tie
 
@@ -18,7 +18,7 @@ abbrev μ-loop : tie.MeasureT-loop
 μ-loop a b i₀ i = length a - i
 
 returns : tie.Need-returns Inv-loop μ-loop
-returns c = sym (same-lengths _ _ (c .if1 .taken))
+returns c = sym (same-lengths _ _ (λ e. omega arith))
 
 loop-holds : tie.Need-loop-holds Inv-loop μ-loop
 loop-holds c = search needs
@@ -30,7 +30,10 @@ shared-slice-read-if2-2 : tie.Need-shared-slice-read-if2-2 Inv-loop μ-loop
 shared-slice-read-if2-2 c = search needs
 
 returns-2 : tie.Need-returns-2 Inv-loop μ-loop
-returns-2 c = let a = c .before .before .before .before .before .before .args in sym (c .before .before .before .before .loop .inv ∙ same-step (a .a .now) (a .b .now) (c .before .before .before .before .loop .i) false (omega arith) (omega arith) (ne-eqb _ _ (c .if2 .taken)))
+returns-2 c =
+    let l = c .before .before .before .before in
+    let a = l .before .before .args in
+    sym (l .loop .inv ∙ same-step (a .a .now) (a .b .now) (l .loop .i) false (omega arith) (omega arith) (ne-eqb _ _ (c .if2 .taken)))
 
 add-i : tie.Need-add-i Inv-loop μ-loop
 add-i c = search needs
@@ -39,10 +42,16 @@ loop-less : tie.Need-loop-less Inv-loop μ-loop
 loop-less c = search needs
 
 loop-again : tie.Need-loop-again Inv-loop μ-loop
-loop-again c = let a = c .before .before .before .before .before .before .args in c .before .before .before .before .loop .inv ∙ same-step (a .a .now) (a .b .now) (c .before .before .before .before .loop .i) true (omega arith) (omega arith) (eq-eqb _ _ (c .if2 .left))
+loop-again c =
+    let l = c .before .before .before .before in
+    let a = l .before .before .args in
+    l .loop .inv ∙ same-step (a .a .now) (a .b .now) (l .loop .i) true (omega arith) (omega arith) (eq-eqb _ _ (c .if2 .left))
 
 returns-3 : tie.Need-returns-3 Inv-loop μ-loop
-returns-3 c = let a = c .before .before .before .args in sym (c .before .loop .inv ∙ same-end (a .a .now) (a .b .now) (c .before .loop .i) (omega arith) (omega arith))
+returns-3 c =
+    let l = c .before in
+    let a = l .before .before .args in
+    sym (l .loop .inv ∙ same-end (a .a .now) (a .b .now) (l .loop .i) (omega arith) (omega arith))
 
 pub same-bytes-spec : {M : Type 1} → statement M
 same-bytes-spec =
