@@ -1,0 +1,246 @@
+//! Cases made from a seed, for comparing two programs.
+//!
+//! A case depends on its seed and index alone, so a run can be cut into
+//! pieces and a single case be made again.
+
+mod byte_damage;
+mod content;
+pub mod coverage;
+mod draft;
+mod first_line;
+mod group_damage;
+mod prng;
+mod refusals;
+mod set_damage;
+mod sizes;
+mod soup;
+
+use crate::exchange::RESPONSE_BUFFER;
+use crate::{answer, Answer};
+use draft::Draft;
+use prng::Prng;
+
+/// What a case was made to be.
+#[derive(Debug, Clone, Copy, PartialEq, Eq, PartialOrd, Ord)]
+pub enum Family {
+    Clean,
+    DamagedSets,
+    DamagedGroup,
+    Soup,
+    /// Made for one refusal number.
+    Refusal(u8),
+    /// Made for two refusal numbers, of which the first is the lower.
+    RefusalPair(u8, u8),
+    DamagedBytes,
+    BufferEdge,
+    NearShortest,
+    NearLongest,
+    ManySets,
+    ManyNotes,
+}
+
+impl Family {
+    /// What a report calls it; all pairs of refusals go by one name.
+    pub fn name(self) -> String {
+        match self {
+            Family::Refusal(number) => format!("Refusal {number:02}"),
+            Family::RefusalPair(..) => "RefusalPair".to_string(),
+            other => format!("{other:?}"),
+        }
+    }
+}
+
+/// One input of `answer`.
+#[derive(Debug, Clone, PartialEq, Eq)]
+pub struct Case {
+    pub family: Family,
+    pub interchange: Vec<u8>,
+    pub buffer_length: usize,
+    pub date: u32,
+    pub time: u32,
+    pub control: u32,
+}
+
+impl Case {
+    pub fn make(seed: u64, index: u64) -> Self {
+        let prng = &mut Prng::for_case(seed, index);
+        let family = pick_family(prng);
+        make_in_family(prng, family)
+    }
+
+    pub fn answer(&self) -> Answer {
+        self.answer_into(self.buffer_length)
+    }
+
+    fn answer_into(&self, buffer_length: usize) -> Answer {
+        answer(
+            &self.interchange,
+            buffer_length,
+            self.date,
+            self.time,
+            self.control,
+        )
+    }
+}
+
+/// The cases of a seed, without end.
+pub fn cases(seed: u64) -> impl Iterator<Item = Case> {
+    (0..).map(move |index| Case::make(seed, index))
+}
+
+/// A whole standard input for `ack`: the case of this seed and index behind a
+/// first line, which is bad in some.
+pub fn standard_input(seed: u64, index: u64) -> Vec<u8> {
+    let case = Case::make(seed, index);
+    let prng = &mut Prng::for_case(!seed, index);
+    let line = if prng.percent(20) {
+        first_line::bad
+    } else {
+        first_line::good
+    };
+    let mut input = line(prng, case.date, case.time, case.control);
+    input.extend(case.interchange);
+    input
+}
+
+/// Nearly all cases are small, so that a run of many is quick.
+fn pick_family(prng: &mut Prng) -> Family {
+    match prng.below(1000) {
+        0..80 => Family::Clean,
+        80..380 => Family::DamagedSets,
+        380..500 => Family::DamagedGroup,
+        500..640 => Family::Soup,
+        640..730 => Family::Refusal(prng.between(1, 14) as u8),
+        730..820 => {
+            let one = prng.between(1, 14) as u8;
+            let other = (one + prng.byte_between(0, 12)) % 14 + 1;
+            Family::RefusalPair(one.min(other), one.max(other))
+        }
+        820..940 => Family::DamagedBytes,
+        940..986 => Family::BufferEdge,
+        986..994 => Family::NearShortest,
+        994..996 => Family::NearLongest,
+        996..998 => Family::ManySets,
+        _ => Family::ManyNotes,
+    }
+}
+
+fn make_in_family(prng: &mut Prng, family: Family) -> Case {
+    match family {
+        Family::Clean => as_drafted(family, &Draft::clean(prng)),
+        Family::DamagedSets => as_drafted(family, &damaged_sets(prng)),
+        Family::DamagedGroup => as_drafted(family, &damaged_group(prng)),
+        Family::Soup => as_drafted(family, &soup::soup(prng)),
+        Family::Refusal(number) => refused(prng, family, &[number]),
+        Family::RefusalPair(low, high) => refused(prng, family, &[high, low]),
+        Family::DamagedBytes => {
+            let mut case = as_drafted(family, &any_small(prng));
+            byte_damage::damage_bytes(prng, &mut case.interchange);
+            case
+        }
+        Family::BufferEdge => {
+            let mut case = as_drafted(family, &any_small(prng));
+            case.buffer_length = near_needed(prng, &case);
+            case
+        }
+        Family::NearShortest => {
+            let mut draft = Draft::clean(prng);
+            let interchange = sizes::near_shortest(prng, &mut draft);
+            case_of(family, &draft, interchange)
+        }
+        Family::NearLongest => as_drafted(family, &sizes::near_longest(prng)),
+        Family::ManySets => at_buffer_edge(prng, family, sizes::many_sets),
+        Family::ManyNotes => at_buffer_edge(prng, family, sizes::many_notes),
+    }
+}
+
+fn as_drafted(family: Family, draft: &Draft) -> Case {
+    case_of(family, draft, draft.render())
+}
+
+fn case_of(family: Family, draft: &Draft, interchange: Vec<u8>) -> Case {
+    Case {
+        family,
+        interchange,
+        buffer_length: RESPONSE_BUFFER,
+        date: draft.date,
+        time: draft.time,
+        control: draft.control,
+    }
+}
+
+fn damaged_sets(prng: &mut Prng) -> Draft {
+    let mut draft = Draft::clean(prng);
+    set_damage::damage_sets(prng, &mut draft);
+    draft
+}
+
+fn damaged_group(prng: &mut Prng) -> Draft {
+    let mut draft = Draft::clean(prng);
+    if prng.percent(30) {
+        set_damage::damage_sets(prng, &mut draft);
+    }
+    group_damage::damage_group(prng, &mut draft);
+    draft
+}
+
+fn any_small(prng: &mut Prng) -> Draft {
+    match prng.below(4) {
+        0 => Draft::clean(prng),
+        1 => damaged_sets(prng),
+        2 => damaged_group(prng),
+        _ => soup::soup(prng),
+    }
+}
+
+/// A clean draft, damaged for each of the refusals. The lowest comes last, so
+/// that no other damage undoes it.
+fn refused(prng: &mut Prng, family: Family, numbers: &[u8]) -> Case {
+    let mut draft = Draft::clean(prng);
+    for &number in numbers {
+        refusals::provoke_in_draft(prng, &mut draft, number);
+    }
+    let mut interchange = draft.render();
+    for &number in numbers {
+        refusals::provoke_in_bytes(prng, &draft, &mut interchange, number);
+    }
+    let mut case = case_of(family, &draft, interchange);
+    if numbers.contains(&14) {
+        case.buffer_length = below_needed(prng, &case);
+    }
+    case
+}
+
+fn at_buffer_edge(prng: &mut Prng, family: Family, make: fn(&mut Prng) -> Draft) -> Case {
+    let draft = make(prng);
+    let mut case = as_drafted(family, &draft);
+    if prng.percent(50) {
+        case.buffer_length = near_needed(prng, &case);
+    }
+    case
+}
+
+/// The length of the response, or 0 where it is refused in any buffer.
+fn needed(case: &Case) -> usize {
+    case.answer_into(usize::MAX).length()
+}
+
+/// A buffer length that fits exactly, is a little off or far off.
+fn near_needed(prng: &mut Prng, case: &Case) -> usize {
+    let needed = needed(case);
+    match prng.below(8) {
+        0 => 0,
+        1 => 1,
+        2 | 3 => needed,
+        4 | 5 => needed.saturating_sub(1),
+        6 => needed + 1,
+        _ => needed * 2 + 100_000,
+    }
+}
+
+fn below_needed(prng: &mut Prng, case: &Case) -> usize {
+    match needed(case) {
+        0 => 0,
+        needed => *prng.pick(&[0, 1, 105, 106, needed - 2, needed - 1]),
+    }
+}

@@ -1,0 +1,101 @@
+//! The interchange control header, cut at fixed places (refusals 2 to 5).
+
+use crate::delimiters::Delimiters;
+use crate::refusal::Refusal;
+use crate::values::all_digits;
+
+/// The length of ISA with its terminator.
+pub const ISA_LENGTH: usize = 106;
+
+pub const LONGEST_INTERCHANGE: usize = 65_536;
+
+/// Where the sixteen separators stand.
+pub const SEPARATORS: [usize; 16] = [
+    3, 6, 17, 20, 31, 34, 50, 53, 69, 76, 81, 83, 89, 99, 101, 103,
+];
+
+const COMPONENT_SEPARATOR: usize = 104;
+const TERMINATOR: usize = 105;
+
+/// The number of fields before ISA16, which is a delimiter and no data.
+const DATA_FIELDS: usize = 15;
+
+pub struct Isa<'a> {
+    pub delimiters: Delimiters,
+    interchange: &'a [u8],
+}
+
+impl<'a> Isa<'a> {
+    pub fn read(interchange: &'a [u8]) -> Result<Self, Refusal> {
+        if !(ISA_LENGTH..=LONGEST_INTERCHANGE).contains(&interchange.len()) {
+            return Err(Refusal::InterchangeSize);
+        }
+        check_separators(interchange)?;
+        let delimiters = Delimiters {
+            element: interchange[SEPARATORS[0]],
+            component: interchange[COMPONENT_SEPARATOR],
+            terminator: interchange[TERMINATOR],
+        }
+        .check()?;
+        let isa = Isa {
+            delimiters,
+            interchange,
+        };
+        isa.check_fields()?;
+        Ok(isa)
+    }
+
+    /// ISA01 to ISA15 by their number.
+    fn field(&self, number: usize) -> &'a [u8] {
+        &self.interchange[SEPARATORS[number - 1] + 1..SEPARATORS[number]]
+    }
+
+    fn check_fields(&self) -> Result<(), Refusal> {
+        let mut fields = (1..=DATA_FIELDS).map(|number| self.field(number));
+        let all_valid = fields.all(|field| self.delimiters.all_valid(field));
+        let known_usage = matches!(self.usage_indicator(), b"P" | b"T" | b"I");
+        if !all_valid || !all_digits(self.control_number()) || !known_usage {
+            return Err(Refusal::IsaFields);
+        }
+        Ok(())
+    }
+
+    /// ISA05
+    pub fn sender_qualifier(&self) -> &'a [u8] {
+        self.field(5)
+    }
+
+    /// ISA06
+    pub fn sender(&self) -> &'a [u8] {
+        self.field(6)
+    }
+
+    /// ISA07
+    pub fn receiver_qualifier(&self) -> &'a [u8] {
+        self.field(7)
+    }
+
+    /// ISA08
+    pub fn receiver(&self) -> &'a [u8] {
+        self.field(8)
+    }
+
+    /// ISA13
+    pub fn control_number(&self) -> &'a [u8] {
+        self.field(13)
+    }
+
+    /// ISA15
+    pub fn usage_indicator(&self) -> &'a [u8] {
+        self.field(15)
+    }
+}
+
+fn check_separators(interchange: &[u8]) -> Result<(), Refusal> {
+    let separator = interchange[SEPARATORS[0]];
+    let in_place = |&place: &usize| interchange[place] == separator;
+    if !interchange.starts_with(b"ISA") || !SEPARATORS.iter().all(in_place) {
+        return Err(Refusal::IsaSeparators);
+    }
+    Ok(())
+}

@@ -1,0 +1,101 @@
+//! Answers one X12 interchange holding one functional group of transaction
+//! set 990 with a functional acknowledgment (997) or a refusal number.
+//!
+//! Written from document 01 alone, to be compared with the proved program.
+
+pub mod caller;
+pub mod delimiters;
+pub mod element_notes;
+pub mod envelope;
+pub mod exchange;
+pub mod generator;
+pub mod group_header;
+pub mod isa;
+pub mod refusal;
+pub mod response;
+pub mod segment;
+pub mod segment_notes;
+pub mod tables;
+pub mod transaction_set;
+pub mod values;
+pub mod verdicts;
+
+use caller::CallerNumbers;
+use envelope::Envelope;
+use group_header::GroupHeader;
+use isa::Isa;
+use refusal::Refusal;
+use transaction_set::TransactionSet;
+use verdicts::GroupVerdict;
+
+/// What one interchange is answered with.
+#[derive(Debug, Clone, PartialEq, Eq)]
+pub enum Answer {
+    /// The response interchange, which fits the buffer.
+    Acknowledged(Vec<u8>),
+    Refused(Refusal),
+}
+
+impl Answer {
+    /// 0, or the number of the refusal.
+    pub fn number(&self) -> u8 {
+        match self {
+            Answer::Acknowledged(_) => 0,
+            Answer::Refused(refusal) => refusal.number(),
+        }
+    }
+
+    /// The length of the response; for refusal 14 the length needed.
+    pub fn length(&self) -> usize {
+        match self {
+            Answer::Acknowledged(response) => response.len(),
+            Answer::Refused(Refusal::BufferTooShort { needed }) => *needed,
+            Answer::Refused(_) => 0,
+        }
+    }
+
+    /// What is written at the start of the buffer: nothing for a refusal.
+    pub fn response(&self) -> &[u8] {
+        match self {
+            Answer::Acknowledged(response) => response,
+            Answer::Refused(_) => &[],
+        }
+    }
+}
+
+/// Answers `interchange` as of the caller's `date` (CCYYMMDD) and `time`
+/// (HHMM) under the caller's `control` number, into a buffer of
+/// `buffer_length` bytes.
+pub fn answer(
+    interchange: &[u8],
+    buffer_length: usize,
+    date: u32,
+    time: u32,
+    control: u32,
+) -> Answer {
+    match acknowledge(interchange, buffer_length, date, time, control) {
+        Ok(response) => Answer::Acknowledged(response),
+        Err(refusal) => Answer::Refused(refusal),
+    }
+}
+
+fn acknowledge(
+    interchange: &[u8],
+    buffer_length: usize,
+    date: u32,
+    time: u32,
+    control: u32,
+) -> Result<Vec<u8>, Refusal> {
+    let caller = CallerNumbers::check(date, time, control)?;
+    let isa = Isa::read(interchange)?;
+    let envelope = Envelope::read(interchange, &isa)?;
+    let header = GroupHeader::read(envelope.gs(), &isa.delimiters)?;
+    let sets = TransactionSet::cut(envelope.group(), &isa.delimiters)?;
+    let verdict = GroupVerdict::reach(&header, &sets, envelope.ge(), &isa.delimiters);
+    let response = response::write(&caller, &isa, &header, &verdict);
+    if response.len() > buffer_length {
+        let needed = response.len();
+        return Err(Refusal::BufferTooShort { needed });
+    }
+    Ok(response)
+}
