@@ -1,6 +1,31 @@
 // The types that the code and the definitions of document 01 share. The definitions stand in specs/, the theorems on them in proofs/.
 ghost use mathlib.Core.Path.{_≡_};
 
+// The names of segments, for what is read and for what is written.
+pub const ISA: [u8; 3] = *b"ISA";
+
+pub const IEA: [u8; 3] = *b"IEA";
+
+pub const GS: [u8; 2] = *b"GS";
+
+pub const GE: [u8; 2] = *b"GE";
+
+pub const ST: [u8; 2] = *b"ST";
+
+pub const SE: [u8; 2] = *b"SE";
+
+pub const AK1: [u8; 3] = *b"AK1";
+
+pub const AK2: [u8; 3] = *b"AK2";
+
+pub const AK3: [u8; 3] = *b"AK3";
+
+pub const AK4: [u8; 3] = *b"AK4";
+
+pub const AK5: [u8; 3] = *b"AK5";
+
+pub const AK9: [u8; 3] = *b"AK9";
+
 // The limits of an interchange, in bytes.
 pub struct Interchange {
     pub length: usize,

@@ -10,8 +10,8 @@ use Rattle.rules.specs.Cutting.{Segment}
 use Rattle.rules.specs.Numbers.{decimal}
 use Rattle.rules.specs.Response.{fieldsOut, segmentOut, out}
 use Rattle.rules.specs.declared.Delimiters.{Delimiters}
-use Rattle.writing.specs.Over.{Wrote, From}
-use Rattle.writing.proofs.Laws.{seq, whole, said}
+use Rattle.writing.specs.Over.{From}
+use Rattle.writing.proofs.Laws.{seq, said}
 
 -- 1. Elements.
 -- an element on its own
@@ -30,25 +30,25 @@ pub field : (d : Delimiters) {f o o₁ o₂ : Bytes} {n m r : ℕ} → From n (d
 field d {f} a b = said (field-out d f) (seq a b)
 
 -- 2. A segment: its id, elements, and the terminator.
--- A block wrote its id and then the elements fs: it has n bytes, and leaves o as o′.
-pub record Begun (d : Delimiters) (id : Bytes) (fs : Segment) (n : ℕ) (o o′ : Bytes) : Type 0 where
-  pub text : From 0 (id ++ fieldsOut d fs) n o o′
+-- A piece wrote, after s bytes, its id and then the elements fs: it has come to n, and leaves o as o′.
+pub record Begun (s : ℕ) (d : Delimiters) (id : Bytes) (fs : Segment) (n : ℕ) (o o′ : Bytes) : Type 0 where
+  pub text : From s (id ++ fieldsOut d fs) n o o′
 
-pub begin : (d : Delimiters) {id o o₁ : Bytes} {n : ℕ} → From 0 id n o o₁ → Begun d id [] n o o₁
+pub begin : (d : Delimiters) {id o o₁ : Bytes} {s n : ℕ} → From s id n o o₁ → Begun s d id [] n o o₁
 unfolding fieldsOut
 begin d {id} a = record { text = said (append-nil id) a }
 
-pub more : {d : Delimiters} {id o o₁ o₂ : Bytes} {fs : Segment} {n m : ℕ}
-    → Begun d id fs n o o₁ → (gs : Segment) → From n (fieldsOut d gs) m o₁ o₂ → Begun d id (fs ++ gs) m o o₂
+pub more : {d : Delimiters} {id o o₁ o₂ : Bytes} {fs : Segment} {s n m : ℕ}
+    → Begun s d id fs n o o₁ → (gs : Segment) → From n (fieldsOut d gs) m o₁ o₂ → Begun s d id (fs ++ gs) m o o₂
 more {d} {id} {o} {o₁} {o₂} {fs} a gs b =
     record {
       text =
           said (ap (λ (l : Bytes). id ++ l) (fields-append d fs gs) ∙ sym (append-assoc id (fieldsOut d fs) (fieldsOut d gs))) (seq (a .text) b);
     }
 
-pub end : {d : Delimiters} {id o o₁ o₂ : Bytes} {fs : Segment} {n r : ℕ}
-    → Begun d id fs n o o₁ → From n (d .terminator ∷ []) r o₁ o₂ → Wrote (segmentOut d (id ∷ fs)) r o o₂
-end a b = whole (seq (a .text) b)
+pub end : {d : Delimiters} {id o o₁ o₂ : Bytes} {fs : Segment} {s n r : ℕ}
+    → Begun s d id fs n o o₁ → From n (d .terminator ∷ []) r o₁ o₂ → From s (segmentOut d (id ∷ fs)) r o o₂
+end a b = seq (a .text) b
 
 -- 3. A list of segments.
 pub out-append : (d : Delimiters) (ss us : List Segment) → out d (ss ++ us) ≡ out d ss ++ out d us

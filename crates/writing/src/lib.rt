@@ -163,22 +163,6 @@ pub fn add_codes(out: &mut [u8], n: usize, d: rules::Delimiters, codes: &[u8]) -
     m
 }
 
-// A segment of two elements.
-pub fn put_pair(
-    out: &mut [u8],
-    d: rules::Delimiters,
-    id: &[u8],
-    first: &[u8],
-    second: &[u8],
-) -> usize
-    ensures { λ r. ⌜ Wrote (segmentOut d (now (id .entry) ∷ now (first .entry) ∷ now (second .entry) ∷ [])) r (now (out .entry)) (now (out .exit)) ⌝ }
-{
-    let n = add_bytes(out, 0, id);
-    let n = add_field(out, n, d, first);
-    let n = add_field(out, n, d, second);
-    add_byte(out, n, d.terminator)
-}
-
 // A segment of two elements, after n bytes.
 pub fn add_pair(
     out: &mut [u8],
@@ -190,7 +174,8 @@ pub fn add_pair(
 ) -> usize
     ensures { λ r. ⌜ From n (segmentOut d (now (id .entry) ∷ now (first .entry) ∷ now (second .entry) ∷ [])) r (now (out .entry)) (now (out .exit)) ⌝ }
 {
-    let at = clipped(n, out.len());
-    let m = put_pair(&mut out[at..], d, id, first, second);
-    joined(n, m)
+    let n = add_bytes(out, n, id);
+    let n = add_field(out, n, d, first);
+    let n = add_field(out, n, d, second);
+    add_byte(out, n, d.terminator)
 }

@@ -1,0 +1,98 @@
+// The segments of the response, each a row of pieces after n bytes of a lent buffer.
+ghost use mathlib.Core.List.{[], _∷_};
+ghost use Rattle.rules.specs.Base.{ascii};
+ghost use Rattle.rules.specs.Cutting.{field, split};
+ghost use Rattle.rules.specs.Response.{segmentOut, ak4, stOut, seOut, gsOut, geOut, ieaOut};
+ghost use Rattle.writing.specs.Over.{From};
+use rules::Delimiters;
+use rules::Finding;
+
+// GS of an acknowledgment: the parties of the GS received change places.
+pub fn add_gs(
+    out: &mut [u8],
+    n: usize,
+    d: Delimiters,
+    gs: &[u8],
+    date: u32,
+    time: u32,
+    control: u32,
+) -> usize
+    ensures { λ r. ⌜ From n (segmentOut d (gsOut (split (d .element) (now (gs .entry))) date time control)) r (now (out .entry)) (now (out .exit)) ⌝ }
+{
+    let n = writing::add_bytes(out, n, &rules::GS);
+    let n = writing::add_field(out, n, d, b"FA");
+    let n = writing::add_field(out, n, d, segments::field(gs, d.element, 3));
+    let n = writing::add_field(out, n, d, segments::field(gs, d.element, 2));
+    let n = writing::add_fixed(out, n, d, date as u64, 8);
+    let n = writing::add_fixed(out, n, d, time as u64, 4);
+    let n = writing::add_count(out, n, d, control as u64);
+    let n = writing::add_field(out, n, d, b"X");
+    let n = writing::add_field(out, n, d, b"004010");
+    writing::add_byte(out, n, d.terminator)
+}
+
+// ST of a 997.
+pub fn add_st(out: &mut [u8], n: usize, d: Delimiters, st02: &[u8]) -> usize
+    ensures { λ r. ⌜ From n (segmentOut d (stOut (now (st02 .entry)))) r (now (out .entry)) (now (out .exit)) ⌝ }
+{
+    writing::add_pair(out, n, d, &rules::ST, b"997", st02)
+}
+
+// AK1: GS01 and GS06 as received.
+pub fn add_ak1(out: &mut [u8], n: usize, d: Delimiters, gs: &[u8]) -> usize
+    ensures { λ r. ⌜ From n (segmentOut d (ascii "AK1" ∷ field (split (d .element) (now (gs .entry))) 1 ∷ field (split (d .element) (now (gs .entry))) 6 ∷ [])) r (now (out .entry)) (now (out .exit)) ⌝ }
+{
+    let gs01 = segments::field(gs, d.element, 1);
+    let gs06 = segments::field(gs, d.element, 6);
+    writing::add_pair(out, n, d, &rules::AK1, gs01, gs06)
+}
+
+// AK2: ST01 and ST02 as received.
+pub fn add_ak2(out: &mut [u8], n: usize, d: Delimiters, st: &[u8]) -> usize
+    ensures { λ r. ⌜ From n (segmentOut d (ascii "AK2" ∷ field (split (d .element) (now (st .entry))) 1 ∷ field (split (d .element) (now (st .entry))) 2 ∷ [])) r (now (out .entry)) (now (out .exit)) ⌝ }
+{
+    let st01 = segments::field(st, d.element, 1);
+    let st02 = segments::field(st, d.element, 2);
+    writing::add_pair(out, n, d, &rules::AK2, st01, st02)
+}
+
+// AK4: place, reference number and code.
+pub fn add_ak4(out: &mut [u8], n: usize, d: Delimiters, f: Finding) -> usize
+    ensures { λ r. ⌜ From n (segmentOut d (ak4 f)) r (now (out .entry)) (now (out .exit)) ⌝ }
+{
+    let n = writing::add_bytes(out, n, &rules::AK4);
+    let n = writing::add_count(out, n, d, f.place as u64);
+    let n = writing::add_optional(out, n, d, f.reference as u64);
+    let n = writing::add_count(out, n, d, f.code as u64);
+    writing::add_byte(out, n, d.terminator)
+}
+
+// SE with a count of segments.
+pub fn add_se(out: &mut [u8], n: usize, d: Delimiters, count: usize, st02: &[u8]) -> usize
+    ensures { λ r. ⌜ From n (segmentOut d (seOut count (now (st02 .entry)))) r (now (out .entry)) (now (out .exit)) ⌝ }
+{
+    let n = writing::add_bytes(out, n, &rules::SE);
+    let n = writing::add_count(out, n, d, count as u64);
+    let n = writing::add_field(out, n, d, st02);
+    writing::add_byte(out, n, d.terminator)
+}
+
+// GE with a count of transaction sets.
+pub fn add_ge(out: &mut [u8], n: usize, d: Delimiters, count: u64, control: u32) -> usize
+    ensures { λ r. ⌜ From n (segmentOut d (geOut count control)) r (now (out .entry)) (now (out .exit)) ⌝ }
+{
+    let n = writing::add_bytes(out, n, &rules::GE);
+    let n = writing::add_count(out, n, d, count);
+    let n = writing::add_count(out, n, d, control as u64);
+    writing::add_byte(out, n, d.terminator)
+}
+
+// IEA with a count of groups.
+pub fn add_iea(out: &mut [u8], n: usize, d: Delimiters, count: u64, control: u32) -> usize
+    ensures { λ r. ⌜ From n (segmentOut d (ieaOut count control)) r (now (out .entry)) (now (out .exit)) ⌝ }
+{
+    let n = writing::add_bytes(out, n, &rules::IEA);
+    let n = writing::add_count(out, n, d, count);
+    let n = writing::add_fixed(out, n, d, control as u64, 9);
+    writing::add_byte(out, n, d.terminator)
+}
