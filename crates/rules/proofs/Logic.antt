@@ -2,9 +2,11 @@
 use mathlib.Core.Path.{_≡_, refl, sym, ap, subst⁻¹}
 use mathlib.Core.Bool.{Bool, true, false, _&&_, _||_, not, false≢true, true≢false}
 use mathlib.Core.List.{List, [], _∷_, _++_}
-use Prim.Native.Nat.{ℕ}
+use Prim.Native.Nat.{ℕ, zero, suc, _<_}
+use native.Mathlib.Nat.{not-suc-le-zero, le-of-suc-le-suc}
 use borrow.Author.Tests.{eqb-true, eq-eqb, not-true}
 use lib.Dec.{T, T-not, eqb}
+use lib.ListN.{length, getD}
 use Rattle.rules.specs.Base.{Bytes, same, all, any, front, last, Rule, _⇒_, first}
 
 pub and-left : (a b : Bool) → a && b ≡ true → a ≡ true
@@ -67,6 +69,12 @@ module _ {A : Type 0} (p : A → Bool) where
   unfolding all
   all-weaken q h [] e = refl
   all-weaken q h (x ∷ xs) e = rw (h x (all-head x xs e)) (all-weaken q h xs (all-tail x xs e))
+
+-- what all pass, the one at k passes
+pub all-at : {A : Type 0} (p : A → Bool) (xs : List A) (d : A) (k : ℕ) → all p xs ≡ true → k < length xs → p (getD xs k d) ≡ true
+all-at p [] d k e h = absurd (not-suc-le-zero h)
+all-at p (x ∷ xs) d zero e h = all-head p x xs e
+all-at p (x ∷ xs) d (suc k) e h = all-at p xs d k (all-tail p x xs e) (le-of-suc-le-suc h)
 
 module _ {A : Type 0} where
   -- a list is all but its last, and its last
