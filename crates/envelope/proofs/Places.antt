@@ -46,7 +46,7 @@ between-places i start (e ∷ []) m h = absurd (not-suc-le-zero (le-of-suc-le-su
 between-places i start (e ∷ (f ∷ es)) zero h = refl
 between-places i start (e ∷ (f ∷ es)) (suc m) h = between-places i (e + 1) (f ∷ es) m (le-of-suc-le-suc h)
 
-pub isa-next : (i : Bytes) (n : ℕ) → (n ≡ 0 → ⊥) → n ≤ 15 → field (isa i) n ≡ slice (getD separators (n - 1) 0 + 1) (getD separators n 0) i
+pub isa-next : (i : Bytes) (n : ℕ) → (n ≡ 0 → ⊥) → n < 16 → field (isa i) n ≡ slice (getD separators (n - 1) 0 + 1) (getD separators n 0) i
 unfolding isa
 isa-next i zero z h = absurd (z refl)
 isa-next i (suc m) z h =

@@ -20,8 +20,11 @@ use text::same_bytes;
 // The id of the first segment.
 pub const ISA: [u8; 3] = *b"ISA";
 
-// Where the sixteen separators of ISA stand.
-const SEPARATORS: [usize; 16] = [
+// The fields of ISA that are read by place: the id, and ISA01 to ISA15.
+const FIELDS: usize = 16;
+
+// Where the separator after each of them stands.
+const SEPARATORS: [usize; FIELDS] = [
     3,
     6,
     17,
@@ -130,7 +133,7 @@ pub fn delimiters(i: &[u8]) -> Delimiters
 pub fn isa_field(i: &[u8], n: usize) -> &[u8]
     ensures { λ r. ⌜ now r ≡ field (isa (now (i .entry))) n ⌝ }
 {
-    if 15 < n {
+    if FIELDS <= n {
         return &i[0..0];
     }
     let bytes = up_to(i, separator(n));
@@ -148,7 +151,7 @@ fn is_framed(i: &[u8]) -> bool
         return false;
     }
     let mut k = 0;
-    while k < 16 {
+    while k < FIELDS {
         if byte_at(i, separator(k)) != byte_at(i, ELEMENT) {
             return false;
         }
@@ -210,7 +213,7 @@ fn are_valid_fields(i: &[u8], d: Delimiters) -> bool
     ensures { λ r. ⌜ r ≡ all (all (valid d)) (isa (now (i .entry))) ⌝ }
 {
     let mut n = 0;
-    while n < 16 {
+    while n < FIELDS {
         if !all_valid(isa_field(i, n), d) {
             return false;
         }
