@@ -2,9 +2,9 @@
 use Prim.Native.Nat.{ℕ, _<_, _≤_}
 use mathlib.Core.Path.{_≡_, refl}
 use mathlib.Core.Bool.{Bool, true, false, _&&_, _||_}
-use borrow.Author.Tests.{le-leb, lt-leb, leb-true, eq-eqb, ne-eqb}
+use borrow.Author.Tests.{le-leb, lt-leb, leb-true, ne-eqb}
 use lib.Dec.{leb}
-use Rattle.rules.specs.Base.{between, isUpper, isLower, isDigit}
+use Rattle.rules.specs.Base.{between, isUpper, isLower}
 use Rattle.rules.specs.Refusals.{plain}
 use Rattle.text.proofs.Loops.{and-false}
 
