@@ -1,1 +1,4 @@
 pub mod Editions
+pub mod Numbers
+pub mod Laws
+pub mod Search

@@ -145,7 +145,7 @@ fn is_id(row: [u16; 6], id: &[u8]) -> bool
 }
 
 fn is_code(row: [u16; 6], value: &[u8]) -> bool
-    ensures { λ r. ⌜ r ≡ same (tables.filled (drop 1 row)) (now (value .entry)) ⌝ }
+    ensures { λ r. ⌜ r ≡ same (now (value .entry)) (tables.filled (drop 1 row)) ⌝ }
 {
     spells(&row[1..6], value)
 }

@@ -1,3 +1,4 @@
+use borrow.Author.Needs.{needs}
 -- `guides::directory` meets its contract.
 use mathlib.Core.Path.{refl}
 use Rattle.rules.specs.Tables.{directory}

@@ -1,3 +1,4 @@
+use borrow.Author.Needs.{needs}
 -- `guides::guide_004010` meets its contract.
 use mathlib.Core.Path.{refl}
 use Rattle.rules.specs.Tables.{table004010, stRows, seRows, b1Rows, k1Rows}

@@ -1,3 +1,4 @@
+use borrow.Author.Needs.{needs}
 -- `guides::guide_006010` meets its contract.
 use mathlib.Core.Path.{refl}
 use Rattle.rules.specs.Tables.{table006010, stRows6, seRows, b1Rows, l11Rows, l11Notes}
