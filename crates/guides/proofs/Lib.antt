@@ -1,4 +1,1 @@
 pub mod Editions
-pub mod Numbers
-pub mod Laws
-pub mod Search

@@ -4,12 +4,12 @@ use mathlib.Core.Bool.{Bool, true, false}
 use mathlib.Core.List.{List, [], _∷_, _++_, map}
 use lib.ListN.{take, replicate}
 use Rattle.rules.specs.Base.{Bytes}
-use Rattle.rules.specs.Tables.{Row, Syntax, Entry, Table, table006010, table004010, directory}
+use Rattle.rules.specs.Tables.{Row, Syntax, Entry, table006010, table004010, directory}
 use Rattle.rules.specs.declared.Kind.{Kind}
 use Rattle.rules.specs.declared.Kind.the-variants.{AN, ID, N0, DT, TM}
 use Rattle.rules.specs.declared.Relation.{Relation}
 use Rattle.rules.specs.declared.Relation.the-variants.{P, R, E, C, L}
-use Rattle.guides.specs.Reading.{Guide}
+use Rattle.tables.specs.Reading.{Guide}
 
 abbrev pub flag : Bool → ℕ
 flag true = 1
