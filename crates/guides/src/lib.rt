@@ -65,12 +65,14 @@ pub fn directory() -> [[u8; 3]; 5]
     DIRECTORY
 }
 
+// The table of edition 006010.
 pub fn guide_006010() -> [[u16; 6]; 20]
     ensures { λ r. ⌜ r ≡ guide006010 ⌝ }
 {
     GUIDE_006010
 }
 
+// The table of edition 004010.
 pub fn guide_004010() -> [[u16; 6]; 16]
     ensures { λ r. ⌜ r ≡ guide004010 ⌝ }
 {

@@ -62,7 +62,7 @@ reachFrom rows k id = nextWhere (isEntryRow id) rows k
 unfoldable pub nextMandatory : Guide → ℕ → ℕ → ℕ
 nextMandatory rows k end = nextWhere isMandatoryRow (take end rows) k
 
--- the id of row k as bytes, and the bytes that such an id stands for
+-- the id of row k by value, of a number above 255 its low byte, and the bytes that such an id stands for
 unfoldable pub idAt : Guide → ℕ → SegmentId
 idAt rows k = let r = getD rows k [] in record {
   first = column r 1 % 256;

@@ -5,8 +5,8 @@ ghost use mathlib.Core.List.{[]};
 ghost use Prim.Native.Nat.{_%_};
 ghost use lib.ListN.{getD, drop};
 ghost use Rattle.rules.specs.Base.{same, member, null};
-ghost use Rattle.rules.specs.Tables as tables;
-ghost use Rattle.tables.specs.Reading as reading;
+ghost use Rattle.rules.specs.Tables.{isRow, filled, kindOf, relationOf, idsIn};
+ghost use Rattle.tables.specs.Reading.{entryAt, codesAt, nextWhere, idIn, isEntryRow, isMandatoryRow, nextEntry, reachFrom, nextMandatory, idAt};
 use rules::Kind;
 use rules::Relation;
 
@@ -65,7 +65,7 @@ fn number_at(numbers: &[u16], i: usize) -> u16
 
 // The numbers before the first 0 are these bytes.
 fn spells(numbers: &[u16], bytes: &[u8]) -> bool
-    ensures { λ r. ⌜ r ≡ same (tables.filled (now (numbers .entry))) (now (bytes .entry)) ⌝ }
+    ensures { λ r. ⌜ r ≡ same (filled (now (numbers .entry))) (now (bytes .entry)) ⌝ }
 {
     let mut i = 0;
     while i < bytes.len() {
@@ -83,19 +83,19 @@ fn spells(numbers: &[u16], bytes: &[u8]) -> bool
 }
 
 fn is_id(row: [u16; 6], id: &[u8]) -> bool
-    ensures { λ r. ⌜ r ≡ same (tables.filled (reading.idIn row)) (now (id .entry)) ⌝ }
+    ensures { λ r. ⌜ r ≡ same (filled (idIn row)) (now (id .entry)) ⌝ }
 {
     spells(&row[1..4], id)
 }
 
 fn is_code(row: [u16; 6], value: &[u8]) -> bool
-    ensures { λ r. ⌜ r ≡ same (now (value .entry)) (tables.filled (drop 1 row)) ⌝ }
+    ensures { λ r. ⌜ r ≡ same (now (value .entry)) (filled (drop 1 row)) ⌝ }
 {
     spells(&row[1..6], value)
 }
 
 fn is_entry_row(row: [u16; 6], id: &[u8]) -> bool
-    ensures { λ r. ⌜ r ≡ reading.isEntryRow (now (id .entry)) row ⌝ }
+    ensures { λ r. ⌜ r ≡ isEntryRow (now (id .entry)) row ⌝ }
 {
     if row[0] != SEGMENT {
         return false;
@@ -104,7 +104,7 @@ fn is_entry_row(row: [u16; 6], id: &[u8]) -> bool
 }
 
 fn is_mandatory_row(row: [u16; 6]) -> bool
-    ensures { λ r. ⌜ r ≡ reading.isMandatoryRow row ⌝ }
+    ensures { λ r. ⌜ r ≡ isMandatoryRow row ⌝ }
 {
     if row[0] != SEGMENT {
         return false;
@@ -113,7 +113,7 @@ fn is_mandatory_row(row: [u16; 6]) -> bool
 }
 
 fn column_of(row: [u16; 6], column: usize) -> u16
-    ensures { λ r. ⌜ r ≡ tables.column row column ⌝ }
+    ensures { λ r. ⌜ r ≡ getD row column 0 ⌝ }
 {
     if column < 6 {
         return row[column];
@@ -123,7 +123,7 @@ fn column_of(row: [u16; 6], column: usize) -> u16
 
 // A number of row k, 0 past the end.
 pub fn number(guide: &[[u16; 6]], k: usize, column: usize) -> u16
-    ensures { λ r. ⌜ r ≡ tables.column (getD (now (guide .entry)) k []) column ⌝ }
+    ensures { λ r. ⌜ r ≡ getD (getD (now (guide .entry)) k []) column 0 ⌝ }
 {
     if k < guide.len() {
         return column_of(guide[k], column);
@@ -132,42 +132,42 @@ pub fn number(guide: &[[u16; 6]], k: usize, column: usize) -> u16
 }
 
 fn is_row(guide: &[[u16; 6]], what: u16, k: usize) -> bool
-    ensures { λ r. ⌜ r ≡ tables.isRow what (getD (now (guide .entry)) k []) ⌝ }
+    ensures { λ r. ⌜ r ≡ isRow what (getD (now (guide .entry)) k []) ⌝ }
 {
     number(guide, k, 0) == what
 }
 
 // Row k is a segment.
 pub fn is_segment(guide: &[[u16; 6]], k: usize) -> bool
-    ensures { λ r. ⌜ r ≡ tables.isRow 1 (getD (now (guide .entry)) k []) ⌝ }
+    ensures { λ r. ⌜ r ≡ isRow 1 (getD (now (guide .entry)) k []) ⌝ }
 {
     is_row(guide, SEGMENT, k)
 }
 
 // Row k is an element of the segment above it.
 pub fn is_element(guide: &[[u16; 6]], k: usize) -> bool
-    ensures { λ r. ⌜ r ≡ tables.isRow 2 (getD (now (guide .entry)) k []) ⌝ }
+    ensures { λ r. ⌜ r ≡ isRow 2 (getD (now (guide .entry)) k []) ⌝ }
 {
     is_row(guide, ELEMENT, k)
 }
 
 // Row k is a code value of the element above it.
 pub fn is_value(guide: &[[u16; 6]], k: usize) -> bool
-    ensures { λ r. ⌜ r ≡ tables.isRow 3 (getD (now (guide .entry)) k []) ⌝ }
+    ensures { λ r. ⌜ r ≡ isRow 3 (getD (now (guide .entry)) k []) ⌝ }
 {
     is_row(guide, VALUE, k)
 }
 
 // Row k is a syntax note of the segment above it.
 pub fn is_note(guide: &[[u16; 6]], k: usize) -> bool
-    ensures { λ r. ⌜ r ≡ tables.isRow 4 (getD (now (guide .entry)) k []) ⌝ }
+    ensures { λ r. ⌜ r ≡ isRow 4 (getD (now (guide .entry)) k []) ⌝ }
 {
     is_row(guide, NOTE, k)
 }
 
 // The type that a number of an element's row stands for.
 pub fn kind_of(n: u16) -> Kind
-    ensures { λ r. ⌜ r ≡ tables.kindOf n ⌝ }
+    ensures { λ r. ⌜ r ≡ kindOf n ⌝ }
 {
     match n {
         ID => Kind::ID,
@@ -180,7 +180,7 @@ pub fn kind_of(n: u16) -> Kind
 
 // The relation that a number of a note's row stands for.
 pub fn relation_of(n: u16) -> Relation
-    ensures { λ r. ⌜ r ≡ tables.relationOf n ⌝ }
+    ensures { λ r. ⌜ r ≡ relationOf n ⌝ }
 {
     match n {
         R => Relation::R,
@@ -193,7 +193,7 @@ pub fn relation_of(n: u16) -> Relation
 
 // The id of row k is these bytes.
 pub fn is_entry(guide: &[[u16; 6]], k: usize, id: &[u8]) -> bool
-    ensures { λ r. ⌜ r ≡ same (reading.entryAt (now (guide .entry)) k .id) (now (id .entry)) ⌝ }
+    ensures { λ r. ⌜ r ≡ same (entryAt (now (guide .entry)) k .id) (now (id .entry)) ⌝ }
 {
     if k < guide.len() {
         return is_id(guide[k], id);
@@ -203,7 +203,7 @@ pub fn is_entry(guide: &[[u16; 6]], k: usize, id: &[u8]) -> bool
 
 // The first segment from row `from` on.
 pub fn next_entry(guide: &[[u16; 6]], from: usize) -> usize
-    ensures { λ r. ⌜ r ≡ reading.nextEntry (now (guide .entry)) from ⌝ }
+    ensures { λ r. ⌜ r ≡ nextEntry (now (guide .entry)) from ⌝ }
 {
     let mut k = from;
     while k < guide.len() {
@@ -217,7 +217,7 @@ pub fn next_entry(guide: &[[u16; 6]], from: usize) -> usize
 
 // The first segment with this id from row `from` on; the number of rows where there is none, and `from` where that is past the end.
 pub fn reach(guide: &[[u16; 6]], from: usize, id: &[u8]) -> usize
-    ensures { λ r. ⌜ r ≡ reading.reachFrom (now (guide .entry)) from (now (id .entry)) ⌝ }
+    ensures { λ r. ⌜ r ≡ reachFrom (now (guide .entry)) from (now (id .entry)) ⌝ }
 {
     let mut k = from;
     while k < guide.len() {
@@ -230,7 +230,7 @@ pub fn reach(guide: &[[u16; 6]], from: usize, id: &[u8]) -> usize
 }
 
 fn mandatory_from(guide: &[[u16; 6]], from: usize) -> usize
-    ensures { λ r. ⌜ r ≡ reading.nextWhere reading.isMandatoryRow (now (guide .entry)) from ⌝ }
+    ensures { λ r. ⌜ r ≡ nextWhere isMandatoryRow (now (guide .entry)) from ⌝ }
 {
     let mut k = from;
     while k < guide.len() {
@@ -244,7 +244,7 @@ fn mandatory_from(guide: &[[u16; 6]], from: usize) -> usize
 
 // The first mandatory segment from row `from` on and before row `end`; `end` or the number of rows where there is none.
 pub fn next_mandatory(guide: &[[u16; 6]], from: usize, end: usize) -> usize
-    ensures { λ r. ⌜ r ≡ reading.nextMandatory (now (guide .entry)) from end ⌝ }
+    ensures { λ r. ⌜ r ≡ nextMandatory (now (guide .entry)) from end ⌝ }
 {
     if end < guide.len() {
         return mandatory_from(&guide[..end], from);
@@ -254,14 +254,14 @@ pub fn next_mandatory(guide: &[[u16; 6]], from: usize, end: usize) -> usize
 
 // Code values stand from row k on.
 pub fn has_values(guide: &[[u16; 6]], k: usize) -> bool
-    ensures { λ r. ⌜ r ≡ not (null (reading.codesAt (now (guide .entry)) k)) ⌝ }
+    ensures { λ r. ⌜ r ≡ not (null (codesAt (now (guide .entry)) k)) ⌝ }
 {
     is_value(guide, k)
 }
 
 // The value is one of the code values from row k on.
 pub fn is_listed(guide: &[[u16; 6]], k: usize, value: &[u8]) -> bool
-    ensures { λ r. ⌜ r ≡ member (now (value .entry)) (reading.codesAt (now (guide .entry)) k) ⌝ }
+    ensures { λ r. ⌜ r ≡ member (now (value .entry)) (codesAt (now (guide .entry)) k) ⌝ }
 {
     let mut i = k;
     while is_value(guide, i) {
@@ -281,7 +281,7 @@ fn low_byte(n: u16) -> u8
 
 // The id of row k, by value.
 pub fn id_at(guide: &[[u16; 6]], k: usize) -> SegmentId
-    ensures { λ r. ⌜ r ≡ reading.idAt (now (guide .entry)) k ⌝ }
+    ensures { λ r. ⌜ r ≡ idAt (now (guide .entry)) k ⌝ }
 {
     SegmentId {
         first: low_byte(number(guide, k, 1)),
@@ -291,7 +291,7 @@ pub fn id_at(guide: &[[u16; 6]], k: usize) -> SegmentId
 }
 
 fn is_named(row: [u8; 3], id: &[u8]) -> bool
-    ensures { λ r. ⌜ r ≡ same (now (id .entry)) (tables.filled row) ⌝ }
+    ensures { λ r. ⌜ r ≡ same (now (id .entry)) (filled row) ⌝ }
 {
     let end = text::find(&row, 0, 0);
     text::same_bytes(id, &row[..end])
@@ -299,7 +299,7 @@ fn is_named(row: [u8; 3], id: &[u8]) -> bool
 
 // The id is one of the directory.
 pub fn is_known(id: &[u8], directory: &[[u8; 3]]) -> bool
-    ensures { λ r. ⌜ r ≡ member (now (id .entry)) (tables.idsIn (now (directory .entry))) ⌝ }
+    ensures { λ r. ⌜ r ≡ member (now (id .entry)) (idsIn (now (directory .entry))) ⌝ }
 {
     let mut k = 0;
     while k < directory.len() {
