@@ -1,11 +1,43 @@
 // The segments of the response, each a row of pieces after n bytes of a lent buffer.
 ghost use mathlib.Core.List.{[], _∷_};
 ghost use Rattle.rules.specs.Base.{ascii};
-ghost use Rattle.rules.specs.Cutting.{field, split};
-ghost use Rattle.rules.specs.Response.{segmentOut, ak4, stOut, seOut, gsOut, geOut, ieaOut};
+ghost use Rattle.rules.specs.Cutting.{field, split, isa};
+ghost use Rattle.rules.specs.Response.{segmentOut, ak4, stOut, seOut, isaOut, gsOut, geOut, ieaOut};
 ghost use Rattle.writing.specs.Over.{From};
 use rules::Delimiters;
 use rules::Finding;
+
+// ISA of the response: the parties of the ISA received change places.
+pub fn add_isa(
+    out: &mut [u8],
+    n: usize,
+    d: Delimiters,
+    i: &[u8],
+    date: u32,
+    time: u32,
+    control: u32,
+) -> usize
+    ensures { λ r. ⌜ From n (segmentOut d (isaOut d (isa (now (i .entry))) date time control)) r (now (out .entry)) (now (out .exit)) ⌝ }
+{
+    let n = writing::add_bytes(out, n, &rules::ISA);
+    let n = writing::add_field(out, n, d, b"00");
+    let n = writing::add_field(out, n, d, b"          ");
+    let n = writing::add_field(out, n, d, b"00");
+    let n = writing::add_field(out, n, d, b"          ");
+    let n = writing::add_field(out, n, d, envelope::isa_field(i, 7));
+    let n = writing::add_field(out, n, d, envelope::isa_field(i, 8));
+    let n = writing::add_field(out, n, d, envelope::isa_field(i, 5));
+    let n = writing::add_field(out, n, d, envelope::isa_field(i, 6));
+    let n = writing::add_fixed(out, n, d, date as u64, 6);
+    let n = writing::add_fixed(out, n, d, time as u64, 4);
+    let n = writing::add_field(out, n, d, b"U");
+    let n = writing::add_field(out, n, d, b"00401");
+    let n = writing::add_fixed(out, n, d, control as u64, 9);
+    let n = writing::add_field(out, n, d, b"0");
+    let n = writing::add_field(out, n, d, envelope::isa_field(i, 15));
+    let n = writing::add_single(out, n, d, d.component);
+    writing::add_byte(out, n, d.terminator)
+}
 
 // GS of an acknowledgment: the parties of the GS received change places.
 pub fn add_gs(
