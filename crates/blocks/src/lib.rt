@@ -1,6 +1,8 @@
 // The segments of the response, each a row of pieces after n bytes of a lent buffer.
-ghost use mathlib.Core.List.{[], _∷_};
-ghost use Rattle.rules.specs.Base.{ascii};
+ghost use mathlib.Core.Path.{_≡_};
+ghost use mathlib.Core.List.{[], _∷_, map};
+ghost use Rattle.rules.specs.Base.{ascii, null, if_then_else_};
+ghost use Rattle.rules.specs.Numbers.{decimal};
 ghost use Rattle.rules.specs.Cutting.{field, split, isa};
 ghost use Rattle.rules.specs.Response.{segmentOut, ak4, stOut, seOut, isaOut, gsOut, geOut, ieaOut};
 ghost use Rattle.writing.specs.Over.{From};
@@ -96,6 +98,44 @@ pub fn add_ak4(out: &mut [u8], n: usize, d: Delimiters, f: Finding) -> usize
     let n = writing::add_count(out, n, d, f.place as u64);
     let n = writing::add_optional(out, n, d, f.reference as u64);
     let n = writing::add_count(out, n, d, f.code as u64);
+    writing::add_byte(out, n, d.terminator)
+}
+
+fn verdict_of(codes: &[u8]) -> u8
+    ensures { λ r. ⌜ (r ∷ []) ≡ (if null (now (codes .entry)) then ascii "A" else ascii "R") ⌝ }
+{
+    if codes.len() == 0 { b'A' } else { b'R' }
+}
+
+// AK5: accepted without codes, else rejected.
+pub fn add_ak5(out: &mut [u8], n: usize, d: Delimiters, codes: &[u8]) -> usize
+    ensures { λ r. ⌜ From n (segmentOut d (ascii "AK5" ∷ (if null (now (codes .entry)) then ascii "A" else ascii "R") ∷ map decimal (now (codes .entry)))) r (now (out .entry)) (now (out .exit)) ⌝ }
+{
+    let n = writing::add_bytes(out, n, &rules::AK5);
+    let n = writing::add_single(out, n, d, verdict_of(codes));
+    let n = writing::add_codes(out, n, d, codes);
+    writing::add_byte(out, n, d.terminator)
+}
+
+// AK9: the verdict on the group, its numbers of sets declared, received and accepted, and its codes.
+pub fn add_ak9(
+    out: &mut [u8],
+    n: usize,
+    d: Delimiters,
+    verdict: u8,
+    declared: u64,
+    received: usize,
+    allowed: usize,
+    codes: &[u8],
+) -> usize
+    ensures { λ r. ⌜ From n (segmentOut d (ascii "AK9" ∷ (verdict ∷ []) ∷ decimal declared ∷ decimal received ∷ decimal allowed ∷ map decimal (now (codes .entry)))) r (now (out .entry)) (now (out .exit)) ⌝ }
+{
+    let n = writing::add_bytes(out, n, &rules::AK9);
+    let n = writing::add_single(out, n, d, verdict);
+    let n = writing::add_count(out, n, d, declared);
+    let n = writing::add_count(out, n, d, received as u64);
+    let n = writing::add_count(out, n, d, allowed as u64);
+    let n = writing::add_codes(out, n, d, codes);
     writing::add_byte(out, n, d.terminator)
 }
 
