@@ -9,4 +9,5 @@ pub mod Groups
 pub mod Refusals
 pub mod Response
 pub mod Answers
+pub mod Program
 pub mod Damage

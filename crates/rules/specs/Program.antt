@@ -1,0 +1,61 @@
+-- "One exchange whole": what the program prints for its input, a first line with the caller's numbers and then the interchange.
+use Prim.Native.Nat.{ℕ}
+use mathlib.Core.Bool.{Bool, true, false, _&&_}
+use mathlib.Core.List.{List, [], _∷_, _++_}
+use mathlib.Core.Option.{Option, none, some}
+use lib.Dec.{eqb}
+use lib.ListN.{take, drop, getD}
+use lib.Seq.{slice}
+use Rattle.rules.specs.Base.{Bytes, ascii, if_then_else_}
+use Rattle.rules.specs.Numbers.{digits, value, decimal}
+use Rattle.rules.specs.Response.{response}
+use Rattle.rules.specs.Answers.{answer}
+use Rattle.rules.specs.declared.Answer.{Answer}
+use Rattle.rules.specs.declared.Answer.the-variants.{Written, Refused, TooLong}
+
+-- what stands before the first LF and after it, where there is one
+pub record Input : Type 0 where
+  pub line : Bytes
+  pub interchange : Bytes
+
+abbrev pub behindByte : ℕ → Option Input → Option Input
+behindByte b none = none
+behindByte b (some i) = some (record { line = b ∷ i .line; interchange = i .interchange })
+
+unfoldable pub parted : Bytes → Option Input
+parted [] = none
+parted (b ∷ bs) =
+    let r = parted bs in
+    if eqb b 10 then some (record { line = []; interchange = bs }) else behindByte b r
+
+-- 8, 4 and 1 to 9 digits with one space between
+unfoldable pub isCall : Bytes → Bool
+isCall l =
+    digits 8 8 (take 8 l) && eqb (getD l 8 0) 32 && digits 4 4 (slice 9 13 l) && eqb (getD l 13 0) 32 && digits 1 9 (drop 14 l)
+
+unfoldable pub refusedText : ℕ → Bytes
+refusedText n = ascii "refused " ++ decimal n ++ ascii "\n"
+
+-- an answer as it is printed
+abbrev pub printedAs : Answer → Bytes → Bytes
+printedAs (Written n) r = r
+printedAs (Refused n) r = refusedText n
+printedAs (TooLong n) r = refusedText 14
+
+-- what is printed for an interchange under a first line, with so much room for the response
+unfoldable pub printedCall : Input → ℕ → Bytes
+printedCall i room =
+    let date = value (take 8 (i .line)) in
+    let time = value (slice 9 13 (i .line)) in
+    let control = value (drop 14 (i .line)) in
+    let a = answer (i .interchange) room date time control in
+    let r = response (i .interchange) date time control in
+    if isCall (i .line) then printedAs a r else refusedText 1
+
+abbrev pub printedFor : Option Input → ℕ → Bytes
+printedFor none room = refusedText 1
+printedFor (some i) room = printedCall i room
+
+-- what is printed for an input
+unfoldable pub printed : Bytes → ℕ → Bytes
+printed input room = printedFor (parted input) room
