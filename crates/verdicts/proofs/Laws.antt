@@ -1,7 +1,7 @@
 -- The codes of a set and of a group are those of document 01, and so are the tables of the editions.
 use Prim.Native.Nat.{ℕ}
-use mathlib.Core.Path.{_≡_, refl, sym, ap, _∙_}
-use mathlib.Core.Bool.{Bool, true, false, not, true≢false}
+use mathlib.Core.Path.{_≡_, refl, sym}
+use mathlib.Core.Bool.{Bool, true, false, _&&_, not, true≢false}
 use mathlib.Core.List.{List}
 use mathlib.Core.Option.{Option, none, some}
 use native.Mathlib.Omega.{arith}
@@ -9,10 +9,10 @@ use lib.Dec.{lit≤}
 use lib.ListN.{length}
 use Rattle.rules.specs.Base.{Bytes, null, isNone, ascii, same, member, if_then_else_}
 use Rattle.rules.specs.Cutting.{Segment, field}
-use Rattle.rules.specs.Tables.{Table, editionTable, table006010, table004010}
+use Rattle.rules.specs.Tables.{Table, editionTable, setTable, table006010, table004010}
 use Rattle.rules.specs.Segments.{Note}
 use Rattle.rules.specs.Sets.{Set, segmentsOf, controlOf, setCodes}
-use Rattle.rules.specs.Groups.{Group, sets, groupCodes}
+use Rattle.rules.specs.Groups.{Group, sets, supported, edition, tableIn, groupCodes}
 use Rattle.verdicts.specs.Collecting.{codesOf, collected}
 use Rattle.verdicts.specs.Rows.{counted, trailerIf, setRow, groupRow, editionIn, tableOf}
 use Rattle.verdicts.specs.declared.Declared.the-variants.{Count, Nothing}
@@ -62,3 +62,12 @@ edition-table bs = go (same bs (ascii "006010")) (same bs (ascii "004010"))
     go true q = refl
     go false true = refl
     go false false = refl
+
+-- the table of a set
+pub table-in : (gs : Segment) (s : Set) → tableIn gs s ≡ if supported gs && same (field (s .header) 1) (ascii "990") then tableOf (editionIn (edition gs)) else none
+unfolding tableIn setTable
+table-in gs s = rw (← edition-table (edition gs)) (go (supported gs) (same (field (s .header) 1) (ascii "990")) (editionTable (edition gs)))
+  where
+    go : (p q : Bool) (t : Option Table) → (if p then (if q then t else none) else none) ≡ if p && q then t else none
+    go true q t = refl
+    go false q t = refl

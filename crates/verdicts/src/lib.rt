@@ -8,11 +8,10 @@ ghost use Rattle.rules.specs.Base.{ascii, same, member, null, isNone, if_then_e
 ghost use Rattle.rules.specs.Cutting as cutting;
 ghost use Rattle.rules.specs.Cutting.{split};
 ghost use Rattle.rules.specs.Numbers as numbers;
-ghost use Rattle.rules.specs.Tables.{editionTable};
 ghost use Rattle.rules.specs.Sets.{declaredIn};
 ghost use Rattle.rules.specs.Groups as groups;
 ghost use Rattle.verdicts.specs.Collecting.{codesOf, noCodes, withCode, collected};
-ghost use Rattle.verdicts.specs.Rows.{counted, trailerIf, otherControl, otherCount, setRow, groupRow, editionIn};
+ghost use Rattle.verdicts.specs.Rows.{counted, trailerIf, otherControl, otherCount, setRow, groupRow, editionIn, tableOf};
 use rules::Delimiters;
 use segments::field;
 use text::is_digits;
@@ -38,25 +37,26 @@ pub const PARTLY: u8 = b'P';
 
 pub const REJECTED: u8 = b'R';
 
-// How many digits a count may have, in SE01 and in GE01.
-const SEGMENT_DIGITS: usize = 10;
+// How many digits a declared count may have.
+const SE01_DIGITS: usize = 10;
 
-const SET_DIGITS: usize = 6;
+const GE01_DIGITS: usize = 6;
 
-// Codes in ascending order: the first `count` of `list`.
+// Codes: the first `count` of `list`.
 pub struct Codes {
-    pub list: [u8; 6],
+    pub list: [u8; Codes::MOST],
     pub count: usize,
 }
 
 impl Codes {
     pub const MOST: usize = 6;
 
+    // No code.
     pub fn none() -> Self
         ensures { λ r. ⌜ r ≡ noCodes ⌝ }
     {
         Self {
-            list: [0; 6],
+            list: [0; Codes::MOST],
             count: 0,
         }
     }
@@ -80,6 +80,7 @@ impl Codes {
         }
     }
 
+    // There is no code.
     pub fn is_empty(self) -> bool
         ensures { λ r. ⌜ r ≡ null (codesOf self) ⌝ }
     {
@@ -153,7 +154,7 @@ pub fn set_codes(
         .with(!supported, 1)
         .with(!closed, 2)
         .with(is_other_control(closed, trailer, header, e, 2), 3)
-        .with(is_other_count(closed, trailer, e, SEGMENT_DIGITS, segments), 4)
+        .with(is_other_count(closed, trailer, e, SE01_DIGITS, segments), 4)
         .with(noted, 5)
         .with(repeated, 23)
 }
@@ -163,6 +164,19 @@ pub enum Edition {
     E006010,
     E004010,
     Other,
+}
+
+impl Edition {
+    // There is a table for it.
+    pub fn has_table(self) -> bool
+        ensures { λ r. ⌜ r ≡ not (isNone (tableOf self)) ⌝ }
+    {
+        match self {
+            Edition::E006010 => true,
+            Edition::E004010 => true,
+            Edition::Other => false,
+        }
+    }
 }
 
 // The edition that GS08 names in its first six bytes.
@@ -203,17 +217,6 @@ pub fn is_load_response(st01: &[u8]) -> bool
     same_bytes(st01, &LOAD_RESPONSE)
 }
 
-// GS08 names an edition that has a table.
-fn has_table(gs08: &[u8]) -> bool
-    ensures { λ r. ⌜ r ≡ not (isNone (editionTable (take 6 (now (gs08 .entry))))) ⌝ }
-{
-    match edition_of(gs08) {
-        Edition::E006010 => true,
-        Edition::E004010 => true,
-        Edition::Other => false,
-    }
-}
-
 // The codes of a group, by the bytes of its GS and GE; the trailer is read only where the group is closed.
 pub fn group_codes(gs: &[u8], ge: &[u8], closed: bool, d: Delimiters, sets: usize) -> Codes
     ensures { λ r. ⌜ r ≡ collected (groupRow (split (d .element) (now (gs .entry))) (trailerIf closed (split (d .element) (now (ge .entry)))) sets) ⌝ }
@@ -221,10 +224,10 @@ pub fn group_codes(gs: &[u8], ge: &[u8], closed: bool, d: Delimiters, sets: usiz
     let e = d.element;
     Codes::none()
         .with(!is_supported(field(gs, e, 1)), 1)
-        .with(!has_table(field(gs, e, 8)), 2)
+        .with(!edition_of(field(gs, e, 8)).has_table(), 2)
         .with(!closed, 3)
         .with(is_other_control(closed, ge, gs, e, 6), 4)
-        .with(is_other_count(closed, ge, e, SET_DIGITS, sets), 5)
+        .with(is_other_count(closed, ge, e, GE01_DIGITS, sets), 5)
 }
 
 // AK902: the value of GE01, or the number of sets where it declares none.
@@ -235,7 +238,7 @@ pub fn declared_sets(ge: &[u8], closed: bool, d: Delimiters, sets: usize) -> u64
     if !closed {
         return sets as u64;
     }
-    match declared_count(field(ge, e, 1), SET_DIGITS) {
+    match declared_count(field(ge, e, 1), GE01_DIGITS) {
         Declared::Count(n) => n,
         Declared::Nothing => sets as u64,
     }
@@ -251,7 +254,11 @@ pub fn verdict(codes: Codes, received: usize, accepted: usize) -> u8
     if accepted == 0 {
         return REJECTED;
     }
-    if accepted == received { ACCEPTED } else { PARTLY }
+    if accepted == received {
+        ACCEPTED
+    } else {
+        PARTLY
+    }
 }
 
 // AK904: the sets accepted, and none under the verdict R.

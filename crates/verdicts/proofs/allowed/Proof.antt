@@ -1,17 +1,13 @@
+-- `verdicts::allowed` meets its contract.
 use borrow.Author.Tests.{eq-eqb, ne-eqb}
 use Rattle.rules.specs.Base.{same}
-use native.Mathlib.Omega.{arith}
 use Rattle.verdicts.proofs.allowed.Statement.{statement}
 use Rattle.verdicts.proofs.allowed.Tie as tie
-use Rattle.verdicts.proofs.allowed.Reads as reads
-use Rattle.verdicts.proofs.allowed.Lts as lts
 
--- src/lib.rt:258:1
 returns : tie.Need-returns
 unfolding same
 returns c = rw (eq-eqb _ _ (c .if1 .taken))
 
--- src/lib.rt:258:1
 returns-2 : tie.Need-returns-2
 unfolding same
 returns-2 c = rw (ne-eqb _ _ (c .if1 .left))

@@ -1,29 +1,20 @@
-use native.Mathlib.Omega.{arith}
+-- `verdicts::is_other_control` meets its contract.
 use borrow.Author.Needs.{needs}
 use Rattle.verdicts.proofs.is_other_control.Statement.{statement}
 use Rattle.verdicts.proofs.is_other_control.Tie as tie
-use Rattle.verdicts.proofs.is_other_control.Reads as reads
-use Rattle.verdicts.proofs.is_other_control.Lts as lts
-use Rattle.segments.proofs.field.Reads as field-reads
-use Rattle.text.proofs.same_bytes.Reads as same-bytes-reads
 
--- src/lib.rt:128:27
 field-requires : tie.Need-field-requires
 field-requires c κs = search needs
 
--- src/lib.rt:128:49
 field-requires-2 : tie.Need-field-requires-2
 field-requires-2 c κs = search needs
 
--- src/lib.rt:128:16
 same-bytes-requires : tie.Need-same-bytes-requires
 same-bytes-requires c κs = search needs
 
--- src/lib.rt:125:1
 returns : tie.Need-returns
 returns c = rw (c .before .before .before .if1 .taken) (cc)
 
--- src/lib.rt:125:1
 returns-2 : tie.Need-returns-2
 returns-2 c = search needs
 

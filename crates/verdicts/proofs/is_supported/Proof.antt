@@ -1,36 +1,27 @@
+-- `verdicts::is_supported` meets its contract.
 use mathlib.Core.Path.{sym, _∙_}
 use Rattle.rules.specs.Base.{any}
 use Rattle.text.proofs.Loops.{or-false}
-use native.Mathlib.Omega.{arith}
 use borrow.Author.Needs.{needs}
 use Rattle.verdicts.proofs.is_supported.Statement.{statement}
 use Rattle.verdicts.proofs.is_supported.Tie as tie
-use Rattle.verdicts.proofs.is_supported.Reads as reads
-use Rattle.verdicts.proofs.is_supported.Lts as lts
-use Rattle.text.proofs.same_bytes.Reads as same-bytes-reads
 
--- src/lib.rt:196:22
 slice-aggregate-same-bytes : tie.Need-slice-aggregate-same-bytes
 slice-aggregate-same-bytes c = search needs
 
--- src/lib.rt:196:5
 same-bytes-requires : tie.Need-same-bytes-requires
 same-bytes-requires c κs = search needs
 
--- src/lib.rt:196:47
 slice-aggregate-same-bytes-2 : tie.Need-slice-aggregate-same-bytes-2
 slice-aggregate-same-bytes-2 c = search needs
 
--- src/lib.rt:196:30
 same-bytes-requires-2 : tie.Need-same-bytes-requires-2
 same-bytes-requires-2 c κs = search needs
 
--- src/lib.rt:193:1
 returns : tie.Need-returns
 unfolding any
 returns c = rw (sym (c .before .same-bytes .ensures) ∙ c .if1 .taken) (c .if1 .taken)
 
--- src/lib.rt:193:1
 returns-2 : tie.Need-returns-2
 unfolding any
 returns-2 c = rw (sym (c .before .before .before .same-bytes .ensures) ∙ c .before .before .if1 .left, or-false) (c .same-bytes2 .ensures)

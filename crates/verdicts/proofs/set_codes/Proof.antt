@@ -1,57 +1,41 @@
+-- `verdicts::set_codes` meets its contract.
 use mathlib.Core.Path.{refl}
 use Rattle.verdicts.proofs.Collected.{then}
 use Rattle.rules.specs.Cutting.{split}
 use Rattle.verdicts.specs.Collecting.{collected, collectedFrom}
 use Rattle.verdicts.specs.Rows.{setRow}
 use Rattle.verdicts.proofs.Laws.{closed-if}
-use native.Mathlib.Omega.{arith}
 use borrow.Author.Needs.{needs}
 use Rattle.verdicts.proofs.set_codes.Statement.{statement}
 use Rattle.verdicts.proofs.set_codes.Tie as tie
-use Rattle.verdicts.proofs.set_codes.Reads as reads
-use Rattle.verdicts.proofs.set_codes.Lts as lts
-use Rattle.verdicts.proofs.Codes.none.Reads as none-reads
-use Rattle.verdicts.proofs.Codes.with.Reads as with-reads
-use Rattle.verdicts.proofs.is_other_control.Reads as is-other-control-reads
-use Rattle.verdicts.proofs.is_other_count.Reads as is-other-count-reads
 
--- src/lib.rt:152:5
 none-requires : tie.Need-none-requires
 none-requires c κs = search needs
 
--- src/lib.rt:152:5
 with-requires : tie.Need-with-requires
 with-requires c κs = search needs
 
--- src/lib.rt:152:5
 with-requires-2 : tie.Need-with-requires-2
 with-requires-2 c κs = search needs
 
--- src/lib.rt:155:15
 is-other-control-requires : tie.Need-is-other-control-requires
 is-other-control-requires c κs = search needs
 
--- src/lib.rt:152:5
 with-requires-3 : tie.Need-with-requires-3
 with-requires-3 c κs = search needs
 
--- src/lib.rt:156:15
 is-other-count-requires : tie.Need-is-other-count-requires
 is-other-count-requires c κs = search needs
 
--- src/lib.rt:152:5
 with-requires-4 : tie.Need-with-requires-4
 with-requires-4 c κs = search needs
 
--- src/lib.rt:152:5
 with-requires-5 : tie.Need-with-requires-5
 with-requires-5 c κs = search needs
 
--- src/lib.rt:152:5
 with-requires-6 : tie.Need-with-requires-6
 with-requires-6 c κs = search needs
 
--- src/lib.rt:139:1
 returns : tie.Need-returns
 unfolding collected collectedFrom setRow
 returns c =

@@ -1,30 +1,22 @@
+-- `verdicts::verdict` meets its contract.
 use mathlib.Core.Path.{sym, _∙_}
 use borrow.Author.Tests.{not-true, not-false, eq-eqb, ne-eqb}
-use native.Mathlib.Omega.{arith}
 use borrow.Author.Needs.{needs}
 use Rattle.verdicts.proofs.verdict.Statement.{statement}
 use Rattle.verdicts.proofs.verdict.Tie as tie
-use Rattle.verdicts.proofs.verdict.Reads as reads
-use Rattle.verdicts.proofs.verdict.Lts as lts
-use Rattle.verdicts.proofs.Codes.is_empty.Reads as is-empty-reads
 
--- src/lib.rt:248:9
 is-empty-requires : tie.Need-is-empty-requires
 is-empty-requires c κs = search needs
 
--- src/lib.rt:249:9
 returns : tie.Need-returns
 returns c = rw (sym (c .before .is-empty .ensures) ∙ not-true _ (c .if1 .taken))
 
--- src/lib.rt:252:9
 returns-2 : tie.Need-returns-2
 returns-2 c = rw (sym (c .before .before .is-empty .ensures) ∙ not-false _ (c .before .if1 .left), eq-eqb _ _ (c .if2 .taken))
 
--- src/lib.rt:245:1
 returns-3 : tie.Need-returns-3
 returns-3 c = rw (sym (c .before .before .before .is-empty .ensures) ∙ not-false _ (c .before .before .if1 .left), ne-eqb _ _ (c .before .if2 .left), eq-eqb _ _ (c .if3 .taken))
 
--- src/lib.rt:245:1
 returns-4 : tie.Need-returns-4
 returns-4 c = rw (sym (c .before .before .before .is-empty .ensures) ∙ not-false _ (c .before .before .if1 .left), ne-eqb _ _ (c .before .if2 .left), ne-eqb _ _ (c .if3 .left))
 

@@ -1,12 +1,9 @@
+-- `verdicts::Codes::is_empty` meets its contract.
 use borrow.Author.Needs.{needs}
 use Rattle.verdicts.proofs.Collected.{empty-by-count}
-use native.Mathlib.Omega.{arith}
 use Rattle.verdicts.proofs.Codes.is_empty.Statement.{statement}
 use Rattle.verdicts.proofs.Codes.is_empty.Tie as tie
-use Rattle.verdicts.proofs.Codes.is_empty.Reads as reads
-use Rattle.verdicts.proofs.Codes.is_empty.Lts as lts
 
--- src/lib.rt:83:5
 returns : tie.Need-returns
 returns c = empty-by-count (c .before .args .self) (search needs)
 
