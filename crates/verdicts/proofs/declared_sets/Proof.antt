@@ -1,0 +1,41 @@
+-- `verdicts::declared_sets` meets its contract.
+use Rattle.rules.specs.Numbers.{declared}
+use mathlib.Core.Path.{sym, _∙_}
+use borrow.Author.Tests.{not-true, not-false}
+use Rattle.verdicts.proofs.Laws.{counted-some, counted-none}
+use borrow.Author.Needs.{needs}
+use Rattle.verdicts.proofs.declared_sets.Statement.{statement}
+use Rattle.verdicts.proofs.declared_sets.Tie as tie
+
+returns : tie.Need-returns
+returns c = rw (not-true (c .before .before .args .closed) (c .if1 .taken))
+
+field-requires : tie.Need-field-requires
+field-requires c κs = search needs
+
+declared-count-requires : tie.Need-declared-count-requires
+declared-count-requires c κs = search needs
+
+enum-known-n : tie.Need-enum-known-n
+enum-known-n c = search needs
+
+enum-told : tie.Need-enum-told
+enum-told c = search needs
+
+returns-2 : tie.Need-returns-2
+returns-2 c = rw (not-false (c .before .before .before .before .before .before .before .args .closed) (c .before .before .before .before .before .if1 .left), ← c .before .before .before .before .field .ensures, counted-some (declared 6 (c .before .before .before .before .field .result .now)) _ (sym (c .before .before .before .declared-count .ensures) ∙ c .before .n .given .1))
+
+returns-3 : tie.Need-returns-3
+returns-3 c = rw (not-false (c .before .before .before .before .before .before .args .closed) (c .before .before .before .before .if1 .left), ← c .before .before .before .field .ensures, counted-none (declared 6 (c .before .before .before .field .result .now)) (sym (c .before .before .declared-count .ensures) ∙ c .enum-told .given .1))
+
+pub declared-sets-spec : {M : Type 1} → statement M
+declared-sets-spec =
+    tie.close
+    (tie.spec
+    returns
+    field-requires
+    declared-count-requires
+    enum-known-n
+    enum-told
+    returns-2
+    returns-3)
