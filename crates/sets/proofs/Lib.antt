@@ -1,0 +1,4 @@
+pub mod Turns
+pub mod Sets
+pub mod Refused
+pub mod Number

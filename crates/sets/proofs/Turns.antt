@@ -1,0 +1,85 @@
+-- What one turn of each loop does: of the search for a set's end, and of the search for an earlier number.
+use mathlib.Core.Path.{_≡_, refl}
+use mathlib.Core.Bool.{Bool, true, false, _||_}
+use mathlib.Core.List.{List, _∷_}
+use Prim.Native.Nat.{ℕ, _+_, _-_, _<_, _≤_}
+use native.Mathlib.Numerals.{add-one}
+use native.Mathlib.Omega.{arith}
+use borrow.Author.Tests.{ltb-true, ltb-false}
+use lib.Dec.{ltb}
+use lib.ListN.{length, take, drop, getD, length-take, length-drop, drop-of-length-le}
+use lib.Seq.{length-take-le, take-nil, drop-cons, getD-take}
+use Rattle.rules.specs.Base.{Bytes, same, any, member, if_then_else_}
+use Rattle.rules.specs.Cutting.{field, split, pieces}
+use Rattle.rules.specs.Sets.{isST, isSE}
+use Rattle.rules.specs.declared.Delimiters.{Delimiters}
+use Rattle.text.specs.Text.{indexOf}
+use Rattle.text.proofs.Search.{find-end}
+use Rattle.segments.proofs.Pieces.{pieces-at, pieces-none, segments-at, segments-none}
+use Rattle.sets.specs.Places.{closedAt, unclosedAt, setFrom, setAt, controlAt, controlsAt}
+
+from-cons : (e header at : ℕ) (p : Bytes) (ps : List Bytes) → setFrom e header at (p ∷ ps)
+    ≡ (if isSE (split e p) then closedAt header at (at + length p + 1)
+    else (if isST (split e p) then unclosedAt header at else setFrom e header (at + length p + 1) ps))
+unfolding setFrom
+from-cons e header at p ps = refl
+
+-- 1. The segment at a place, with the end that `find` gave.
+module _ (t : ℕ) (s : Bytes) (at end : ℕ) (h : at < length s) (q : end ≡ at + indexOf t (drop at s)) where
+  piece-end : at + length (take (end - at) (drop at s)) ≡ end
+  piece-end =
+      let within = find-end t s at end q h in
+      omega (arith, length-take-le (end - at) (drop at s) (omega (arith, length-drop at s)))
+
+  -- it comes after a header
+  pub set-goes : (e header : ℕ) (se st : Bool)
+      → isSE (split e (take (end - at) (drop at s))) ≡ se → isST (split e (take (end - at) (drop at s))) ≡ st
+      → setFrom e header at (pieces t (drop at s))
+      ≡ (if se then closedAt header at (end + 1)
+      else (if st then unclosedAt header at else setFrom e header (end + 1) (pieces t (drop (end + 1) s))))
+  set-goes e header se st p g = rw (pieces-at t s at end h q, from-cons, p, g, piece-end)
+
+pub set-ends : (t : ℕ) (s : Bytes) (at : ℕ) → length s ≤ at → (e header : ℕ) → setFrom e header at (pieces t (drop at s)) ≡ unclosedAt header at
+unfolding setFrom
+set-ends t s at h e header = rw (pieces-none t s at h)
+
+-- it is a header
+pub set-opens : (d : Delimiters) (s : Bytes) (at end : ℕ) → at < length s → end ≡ at + indexOf (d .terminator) (drop at s)
+    → setAt d s at ≡ setFrom (d .element) end (end + 1) (pieces (d .terminator) (drop (end + 1) s))
+unfolding setAt
+set-opens d s at end h q = rw (pieces-at (d .terminator) s at end h q, piece-end (d .terminator) s at end h q)
+
+pub set-none : (d : Delimiters) (s : Bytes) (at : ℕ) → length s ≤ at → setAt d s at ≡ unclosedAt at at
+unfolding setAt
+set-none d s at h = rw (pieces-none (d .terminator) s at h)
+
+-- 2. The number of the header at a place: past the end there is no field.
+pub control-is : (d : Delimiters) (s : Bytes) (at end : ℕ) → end ≡ at + indexOf (d .terminator) (drop at s)
+    → controlAt d s at ≡ field (split (d .element) (take (end - at) (drop at s))) 2
+unfolding controlAt split
+control-is d s at end q = go (ltb at (length s)) refl
+  where
+    go : (c : Bool) → ltb at (length s) ≡ c → controlAt d s at ≡ field (split (d .element) (take (end - at) (drop at s))) 2
+    go true c = rw (segments-at d s at end (ltb-true at (length s) c) q)
+    go false c =
+        let past = ltb-false at (length s) c in
+        rw (segments-none d s at past, drop-of-length-le s {i = at} past, take-nil (end - at))
+
+-- 3. The number at the k-th of the first n places is the same as q says, and the rest decides.
+module _ (d : Delimiters) (s control : Bytes) (starts : List ℕ) (n k : ℕ) where
+  pub member-step : (q : Bool) → k < n → k < length starts → same control (controlAt d s (getD starts k 0)) ≡ q
+      → member control (controlsAt d s (drop k (take n starts))) ≡ q || member control (controlsAt d s (drop (k + 1) (take n starts)))
+  unfolding controlsAt any
+  member-step q h h′ e =
+      let within : k < length (take n starts) = simp length-take (omega arith) in
+      rw (add-one, drop-cons (take n starts) k 0 within, getD-take n starts k 0 h, e)
+
+  member-end : length (take n starts) ≤ k → member control (controlsAt d s (drop k (take n starts))) ≡ false
+  unfolding controlsAt any
+  member-end h = rw (drop-of-length-le (take n starts) {i = k} h)
+
+  pub member-all : n ≤ k → member control (controlsAt d s (drop k (take n starts))) ≡ false
+  member-all h = member-end (simp length-take (omega arith))
+
+  pub member-past : length starts ≤ k → member control (controlsAt d s (drop k (take n starts))) ≡ false
+  member-past h = member-end (simp length-take (omega arith))

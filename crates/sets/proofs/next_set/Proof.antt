@@ -1,0 +1,150 @@
+-- `sets::next_set` meets its contract: from where the set goes on, the pieces that are left decide its end.
+use borrow.Author.Needs.{needs}
+use mathlib.Core.Path.{_≡_, refl, sym, ap, _∙_}
+use mathlib.Core.Bool.{true, false}
+use Prim.Native.Nat.{_+_, _-_, _≤_}
+use lib.ListN.{length, drop}
+use Rattle.rules.specs.Base.{Bytes, ascii, same}
+use Rattle.rules.specs.Cutting.{pieces}
+use Rattle.text.proofs.Search.{find-end}
+use Rattle.sets.specs.Places.{setAt, setFrom}
+use Rattle.sets.proofs.Turns.{set-none, set-opens, set-goes, set-ends}
+use native.Mathlib.Omega.{arith}
+use Rattle.sets.proofs.next_set.Statement.{statement}
+use Rattle.sets.proofs.next_set.Tie as tie
+
+abbrev Inv-loop : tie.InvT-loop
+Inv-loop body d at header next₀ t8 t9 next =
+    (next ≤ length body + 1) × (setAt d body at ≡ setFrom (d .element) header next (pieces (d .terminator) (drop next body)))
+
+abbrev μ-loop : tie.MeasureT-loop
+μ-loop body d at header next₀ t8 t9 next = length body + 1 - next
+
+without-trailer-requires : tie.Need-without-trailer-requires Inv-loop μ-loop
+without-trailer-requires c κs = search needs
+
+returns : tie.Need-returns Inv-loop μ-loop
+returns c = c .without-trailer .ensures ∙ sym (set-none _ _ _ (c .before .if1 .taken))
+
+find-requires : tie.Need-find-requires Inv-loop μ-loop
+find-requires c κs = search needs
+
+add-next : tie.Need-add-next Inv-loop μ-loop
+add-next c = let within = find-end _ _ _ _ (c .find .ensures) (c .before .if1 .left) in omega arith
+
+loop-holds : tie.Need-loop-holds Inv-loop μ-loop
+loop-holds c =
+    let within = find-end _ _ _ _ (c .find .ensures) (c .before .if1 .left) in
+    (omega arith, set-opens _ _ _ _ (c .before .if1 .left) (c .find .ensures))
+
+find-requires-2 : tie.Need-find-requires-2 Inv-loop μ-loop
+find-requires-2 c κs = search needs
+
+sub-id : tie.Need-sub-id Inv-loop μ-loop
+sub-id c = search needs
+
+part-id-start : tie.Need-part-id-start Inv-loop μ-loop
+part-id-start c = search needs
+
+part-id-end : tie.Need-part-id-end Inv-loop μ-loop
+part-id-end c = find-end _ _ _ _ (c .find2 .ensures) (c .before .loop-test .taken)
+
+id-requires : tie.Need-id-requires Inv-loop μ-loop
+id-requires c κs = search needs
+
+slice-aggregate-same-bytes : tie.Need-slice-aggregate-same-bytes Inv-loop μ-loop
+slice-aggregate-same-bytes c = search needs
+
+same-bytes-requires : tie.Need-same-bytes-requires Inv-loop μ-loop
+same-bytes-requires c κs = search needs
+
+add-with-trailer : tie.Need-add-with-trailer Inv-loop μ-loop
+add-with-trailer c =
+    let f = c .before .before .before .before .before in
+    let within = find-end _ _ _ _ (f .find2 .ensures) (f .before .loop-test .taken) in
+    omega arith
+
+with-trailer-requires : tie.Need-with-trailer-requires Inv-loop μ-loop
+with-trailer-requires c κs = search needs
+
+returns-2 : tie.Need-returns-2 Inv-loop μ-loop
+returns-2 c =
+    let f = c .before .before .before .before .before .before in
+    let trailer = ap (λ (l : Bytes). same l (ascii "SE")) (sym (c .before .before .before .before .id .ensures)) ∙ sym (c .before .before .same-bytes .ensures) ∙ c .before .if2 .taken in
+    c .with-trailer .ensures
+    ∙ sym (f .before .before .loop .inv .1 ∙ set-goes _ _ _ _ (f .before .loop-test .taken) (f .find2 .ensures) _ _ true _ trailer refl)
+
+slice-aggregate-same-bytes-2 : tie.Need-slice-aggregate-same-bytes-2 Inv-loop μ-loop
+slice-aggregate-same-bytes-2 c = search needs
+
+same-bytes-requires-2 : tie.Need-same-bytes-requires-2 Inv-loop μ-loop
+same-bytes-requires-2 c κs = search needs
+
+without-trailer-requires-2 : tie.Need-without-trailer-requires-2 Inv-loop μ-loop
+without-trailer-requires-2 c κs = search needs
+
+returns-3 : tie.Need-returns-3 Inv-loop μ-loop
+returns-3 c =
+    let f = c .before .before .before .before .before .before .before .before .before in
+    let id = sym (c .before .before .before .before .before .before .before .id .ensures) in
+    let trailer = ap (λ (l : Bytes). same l (ascii "SE")) id ∙ sym (c .before .before .before .before .before .same-bytes .ensures) ∙ c .before .before .before .before .if2 .left in
+    let header = ap (λ (l : Bytes). same l (ascii "ST")) id ∙ sym (c .before .before .same-bytes2 .ensures) ∙ c .before .if3 .taken in
+    c .without-trailer2 .ensures
+    ∙ sym (f .before .before .loop .inv .1 ∙ set-goes _ _ _ _ (f .before .loop-test .taken) (f .find2 .ensures) _ _ false true trailer header)
+
+add-next-2 : tie.Need-add-next-2 Inv-loop μ-loop
+add-next-2 c =
+    let f = c .before .before .before .before .before .before .before .before in
+    let within = find-end _ _ _ _ (f .find2 .ensures) (f .before .loop-test .taken) in
+    omega arith
+
+loop-less : tie.Need-loop-less Inv-loop μ-loop
+loop-less c = search needs
+
+loop-again : tie.Need-loop-again Inv-loop μ-loop
+loop-again c =
+    let f = c .before .before .before .before .before .before .before .before in
+    let within = find-end _ _ _ _ (f .find2 .ensures) (f .before .loop-test .taken) in
+    let id = sym (c .before .before .before .before .before .before .id .ensures) in
+    let trailer = ap (λ (l : Bytes). same l (ascii "SE")) id ∙ sym (c .before .before .before .before .same-bytes .ensures) ∙ c .before .before .before .if2 .left in
+    let header = ap (λ (l : Bytes). same l (ascii "ST")) id ∙ sym (c .before .same-bytes2 .ensures) ∙ c .if3 .left in (
+      omega arith,
+      f .before .before .loop .inv .1 ∙ set-goes _ _ _ _ (f .before .loop-test .taken) (f .find2 .ensures) _ _ false false trailer header,
+    )
+
+without-trailer-requires-3 : tie.Need-without-trailer-requires-3 Inv-loop μ-loop
+without-trailer-requires-3 c κs = search needs
+
+returns-4 : tie.Need-returns-4 Inv-loop μ-loop
+returns-4 c = c .without-trailer3 .ensures ∙ sym (c .before .before .loop .inv .1 ∙ set-ends _ _ _ (c .before .loop-test .left) _ _)
+
+pub next-set-spec : {M : Type 1} → statement M
+next-set-spec =
+    tie.close
+    (tie.spec
+    Inv-loop
+    μ-loop
+    without-trailer-requires
+    returns
+    find-requires
+    add-next
+    loop-holds
+    find-requires-2
+    sub-id
+    part-id-start
+    part-id-end
+    id-requires
+    slice-aggregate-same-bytes
+    same-bytes-requires
+    add-with-trailer
+    with-trailer-requires
+    returns-2
+    slice-aggregate-same-bytes-2
+    same-bytes-requires-2
+    without-trailer-requires-2
+    returns-3
+    add-next-2
+    loop-less
+    loop-again
+    without-trailer-requires-3
+    returns-4)

@@ -1,0 +1,41 @@
+-- Where the sets of a group stand in its bytes: the header, the trailer and the end of the set that starts at a place, and its ST02.
+use Prim.Native.Nat.{ℕ, _+_}
+use mathlib.Core.Bool.{true, false}
+use mathlib.Core.List.{List, [], _∷_, map}
+use lib.ListN.{length, drop, getD}
+use Rattle.rules.specs.Base.{Bytes, if_then_else_}
+use Rattle.rules.specs.Cutting.{field, split, pieces, segments}
+use Rattle.rules.specs.Sets.{isST, isSE}
+use Rattle.rules.specs.declared.Delimiters.{Delimiters}
+use Rattle.sets.specs.declared.SetAt.{SetAt}
+
+-- a set with its SE, and one without
+abbrev pub closedAt : ℕ → ℕ → ℕ → SetAt
+closedAt header trailer end = record { header = header; trailer = trailer; end = end; closed = true }
+
+abbrev pub unclosedAt : ℕ → ℕ → SetAt
+unclosedAt header end = record { header = header; trailer = end; end = end; closed = false }
+
+-- the set whose header ends at header and whose next pieces, cut by the separator e, start at the place at
+unfoldable pub setFrom : ℕ → ℕ → ℕ → List Bytes → SetAt
+setFrom e header at [] = unclosedAt header at
+setFrom e header at (p ∷ ps) =
+    let r = setFrom e header (at + length p + 1) ps in
+    if isSE (split e p) then closedAt header at (at + length p + 1)
+    else (if isST (split e p) then unclosedAt header at else r)
+
+-- the set whose header is the first piece, which starts at the place at
+abbrev pub setBy : ℕ → ℕ → List Bytes → SetAt
+setBy e at [] = unclosedAt at at
+setBy e at (p ∷ ps) = setFrom e (at + length p) (at + length p + 1) ps
+
+-- the set that starts at the place at
+unfoldable pub setAt : Delimiters → Bytes → ℕ → SetAt
+setAt d body at = setBy (d .element) at (pieces (d .terminator) (drop at body))
+
+-- ST02 of the header that starts at a place, nothing past the end
+unfoldable pub controlAt : Delimiters → Bytes → ℕ → Bytes
+controlAt d body at = field (getD (segments d (drop at body)) 0 []) 2
+
+unfoldable pub controlsAt : Delimiters → Bytes → List ℕ → List Bytes
+controlsAt d body = map (controlAt d body)

@@ -1,0 +1,149 @@
+// The sets of a group, cut from its bytes. `body` is the segments between GS and GE; a place in it may be one past its end.
+ghost use mathlib.Core.Path.{_≡_};
+ghost use Prim.Native.Nat.{_-_};
+ghost use lib.ListN.{take, drop};
+ghost use Rattle.rules.specs.Base.{member};
+ghost use Rattle.rules.specs.Cutting as cutting;
+ghost use Rattle.rules.specs.Refusals.{goodST};
+ghost use Rattle.sets.specs.Places.{closedAt, unclosedAt, setAt, controlAt, controlsAt};
+ghost use Rattle.sets.specs.Groups.{setRefusal};
+use rules::Delimiters;
+
+// The place of a set.
+pub struct SetAt {
+    // Where the header ends.
+    pub header: usize,
+    // Where the trailer starts; the end where there is none.
+    pub trailer: usize,
+    // Where the next set starts.
+    pub end: usize,
+    // There is a trailer.
+    pub closed: bool,
+}
+
+impl SetAt {
+    fn with_trailer(header: usize, trailer: usize, end: usize) -> Self
+        ensures { λ r. ⌜ r ≡ closedAt header trailer end ⌝ }
+    {
+        Self {
+            header,
+            trailer,
+            end,
+            closed: true,
+        }
+    }
+
+    fn without_trailer(header: usize, end: usize) -> Self
+        ensures { λ r. ⌜ r ≡ unclosedAt header end ⌝ }
+    {
+        Self {
+            header,
+            trailer: end,
+            end,
+            closed: false,
+        }
+    }
+}
+
+// The set whose header starts at `at`: it goes to its SE, or up to the next ST or the group's end.
+pub fn next_set(body: &[u8], d: Delimiters, at: usize) -> SetAt
+    ensures { λ r. ⌜ r ≡ setAt d (now (body .entry)) at ⌝ }
+{
+    if body.len() <= at {
+        return SetAt::without_trailer(at, at);
+    }
+    let header = text::find(body, at, d.terminator);
+    let mut next = header + 1;
+    while next < body.len() {
+        let end = text::find(body, next, d.terminator);
+        let id = segments::id(&body[next..end], d.element);
+        if text::same_bytes(id, b"SE") {
+            return SetAt::with_trailer(header, next, end + 1);
+        }
+        if text::same_bytes(id, b"ST") {
+            return SetAt::without_trailer(header, next);
+        }
+        next = end + 1;
+    }
+    SetAt::without_trailer(header, next)
+}
+
+// The bytes from `from` up to `to`, those that there are.
+pub fn part(body: &[u8], from: usize, to: usize) -> &[u8]
+    ensures { λ r. ⌜ now r ≡ take (to - from) (drop from (now (body .entry))) ⌝ }
+{
+    if body.len() <= from {
+        return &body[0..0];
+    }
+    if to <= from {
+        return &body[0..0];
+    }
+    if body.len() <= to {
+        return &body[from..];
+    }
+    &body[from..to]
+}
+
+// ST01 is three digits, and ST02 is 4 to 9 valid bytes.
+fn is_good_header(header: &[u8], d: Delimiters) -> bool
+    ensures { λ r. ⌜ r ≡ goodST d (cutting.split (d .element) (now (header .entry))) ⌝ }
+{
+    text::is_digits(segments::field(header, d.element, 1), 3, 3)
+        && text::is_text(segments::field(header, d.element, 2), 4, 9, d)
+}
+
+// Refusals 11 to 13: a segment outside every set, no set, a header that cannot be answered; 0 for none.
+pub fn set_refusal(body: &[u8], d: Delimiters) -> u8
+    ensures { λ r. ⌜ r ≡ setRefusal d (cutting.segments d (now (body .entry))) ⌝ }
+{
+    if body.len() == 0 {
+        return 12;
+    }
+    let mut refusal: u8 = 0;
+    let mut at = 0;
+    while at < body.len() {
+        let set = next_set(body, d, at);
+        let header = part(body, at, set.header);
+        if !segments::is_named(header, d.element, b"ST") {
+            return 11;
+        }
+        at = set.end;
+        if !is_good_header(header, d) {
+            refusal = 13;
+        }
+    }
+    refusal
+}
+
+// ST02 of the header that starts at `at`.
+pub fn control_at(body: &[u8], d: Delimiters, at: usize) -> &[u8]
+    ensures { λ r. ⌜ now r ≡ controlAt d (now (body .entry)) at ⌝ }
+{
+    let end = text::find(body, at, d.terminator);
+    segments::field(part(body, at, end), d.element, 2)
+}
+
+// Whether one of the first `count` sets, whose headers start at these places, has the ST02 `control`.
+pub fn is_repeated(body: &[u8], d: Delimiters, starts: &[u32], count: usize, control: &[u8]) -> bool
+    ensures { λ r. ⌜ r ≡ member (now (control .entry)) (controlsAt d (now (body .entry)) (take count (now (starts .entry)))) ⌝ }
+{
+    let mut found = false;
+    let mut k = 0;
+    'sets: while k < starts.len() && k < count {
+        let earlier = control_at(body, d, starts[k] as usize);
+        k += 1;
+        if earlier.len() != control.len() {
+            continue 'sets;
+        }
+        let mut i = 0;
+        while i < control.len() {
+            if control[i] != earlier[i] {
+                continue 'sets;
+            }
+            i += 1;
+        }
+        found = true;
+        break 'sets;
+    }
+    found
+}
