@@ -56,7 +56,7 @@ unfoldable pub editionIn : Bytes → Edition
 editionIn bs = if same bs (ascii "006010") then E006010 else (if same bs (ascii "004010") then E004010 else Other)
 
 -- the table of an edition
-abbrev pub tableOf : Edition → Option Table
-tableOf E006010 = some table006010
-tableOf E004010 = some table004010
-tableOf Other = none
+abbrev pub tableFor : Edition → Option Table
+tableFor E006010 = some table006010
+tableFor E004010 = some table004010
+tableFor Other = none

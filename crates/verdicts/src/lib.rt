@@ -11,7 +11,7 @@ ghost use Rattle.rules.specs.Numbers as numbers;
 ghost use Rattle.rules.specs.Sets.{declaredIn};
 ghost use Rattle.rules.specs.Groups as groups;
 ghost use Rattle.verdicts.specs.Collecting.{codesOf, noCodes, withCode, collected};
-ghost use Rattle.verdicts.specs.Verdicts.{counted, trailerIf, otherControl, otherCount, setCodeRules, groupCodeRules, editionIn, tableOf};
+ghost use Rattle.verdicts.specs.Verdicts.{counted, trailerIf, otherControl, otherCount, setCodeRules, groupCodeRules, editionIn, tableFor};
 use rules::Delimiters;
 use segments::field;
 use text::is_digits;
@@ -169,7 +169,7 @@ pub enum Edition {
 impl Edition {
     // There is a table for it.
     pub fn has_table(self) -> bool
-        ensures { λ r. ⌜ r ≡ not (isNone (tableOf self)) ⌝ }
+        ensures { λ r. ⌜ r ≡ not (isNone (tableFor self)) ⌝ }
     {
         match self {
             Edition::E006010 => true,
