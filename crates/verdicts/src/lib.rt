@@ -11,7 +11,7 @@ ghost use Rattle.rules.specs.Numbers as numbers;
 ghost use Rattle.rules.specs.Sets.{declaredIn};
 ghost use Rattle.rules.specs.Groups as groups;
 ghost use Rattle.verdicts.specs.Collecting.{codesOf, noCodes, withCode, collected};
-ghost use Rattle.verdicts.specs.Rows.{counted, trailerIf, otherControl, otherCount, setRow, groupRow, editionIn, tableOf};
+ghost use Rattle.verdicts.specs.Verdicts.{counted, trailerIf, otherControl, otherCount, setCodeRules, groupCodeRules, editionIn, tableFor};
 use rules::Delimiters;
 use segments::field;
 use text::is_digits;
@@ -147,7 +147,7 @@ pub fn set_codes(
     noted: bool,
     repeated: bool,
 ) -> Codes
-    ensures { λ r. ⌜ r ≡ collected (setRow supported (split (d .element) (now (header .entry))) (trailerIf closed (split (d .element) (now (trailer .entry)))) segments noted repeated) ⌝ }
+    ensures { λ r. ⌜ r ≡ collected (setCodeRules supported (split (d .element) (now (header .entry))) (trailerIf closed (split (d .element) (now (trailer .entry)))) segments noted repeated) ⌝ }
 {
     let e = d.element;
     Codes::none()
@@ -169,7 +169,7 @@ pub enum Edition {
 impl Edition {
     // There is a table for it.
     pub fn has_table(self) -> bool
-        ensures { λ r. ⌜ r ≡ not (isNone (tableOf self)) ⌝ }
+        ensures { λ r. ⌜ r ≡ not (isNone (tableFor self)) ⌝ }
     {
         match self {
             Edition::E006010 => true,
@@ -219,7 +219,7 @@ pub fn is_load_response(st01: &[u8]) -> bool
 
 // The codes of a group, by the bytes of its GS and GE; the trailer is read only where the group is closed.
 pub fn group_codes(gs: &[u8], ge: &[u8], closed: bool, d: Delimiters, sets: usize) -> Codes
-    ensures { λ r. ⌜ r ≡ collected (groupRow (split (d .element) (now (gs .entry))) (trailerIf closed (split (d .element) (now (ge .entry)))) sets) ⌝ }
+    ensures { λ r. ⌜ r ≡ collected (groupCodeRules (split (d .element) (now (gs .entry))) (trailerIf closed (split (d .element) (now (ge .entry)))) sets) ⌝ }
 {
     let e = d.element;
     Codes::none()

@@ -23,10 +23,16 @@ enum-told : tie.Need-enum-told
 enum-told c = search needs
 
 returns-2 : tie.Need-returns-2
-returns-2 c = rw (not-false (c .before .before .before .before .before .before .before .args .closed) (c .before .before .before .before .before .if1 .left), ← c .before .before .before .before .field .ensures, counted-some (declared 6 (c .before .before .before .before .field .result .now)) _ (sym (c .before .before .before .declared-count .ensures) ∙ c .before .n .given .1))
+returns-2 c =
+    let f = c .before .before .before .before in
+    let counts = sym (c .before .before .before .declared-count .ensures) ∙ c .before .n .given .1 in
+    rw (not-false (f .before .before .before .args .closed) (f .before .if1 .left), ← f .field .ensures, counted-some (declared 6 (f .field .result .now)) _ counts)
 
 returns-3 : tie.Need-returns-3
-returns-3 c = rw (not-false (c .before .before .before .before .before .before .args .closed) (c .before .before .before .before .if1 .left), ← c .before .before .before .field .ensures, counted-none (declared 6 (c .before .before .before .field .result .now)) (sym (c .before .before .declared-count .ensures) ∙ c .enum-told .given .1))
+returns-3 c =
+    let f = c .before .before .before in
+    let counts = sym (c .before .before .declared-count .ensures) ∙ c .enum-told .given .1 in
+    rw (not-false (f .before .before .before .args .closed) (f .before .if1 .left), ← f .field .ensures, counted-none (declared 6 (f .field .result .now)) counts)
 
 pub declared-sets-spec : {M : Type 1} → statement M
 declared-sets-spec =

@@ -1,5 +1,5 @@
 -- `verdicts::edition_of` meets its contract.
-use Rattle.verdicts.specs.Rows.{editionIn}
+use Rattle.verdicts.specs.Verdicts.{editionIn}
 use borrow.Author.Needs.{needs}
 use Rattle.verdicts.proofs.edition_of.Statement.{statement}
 use Rattle.verdicts.proofs.edition_of.Tie as tie

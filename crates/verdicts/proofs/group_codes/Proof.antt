@@ -3,7 +3,7 @@ use mathlib.Core.Path.{ap, _∙_}
 use mathlib.Core.Bool.{not, Bool·not-not}
 use Rattle.rules.specs.Cutting.{split}
 use Rattle.verdicts.specs.Collecting.{collected, collectedFrom}
-use Rattle.verdicts.specs.Rows.{groupRow}
+use Rattle.verdicts.specs.Verdicts.{groupCodeRules}
 use Rattle.verdicts.proofs.Collected.{then}
 use Rattle.verdicts.proofs.Laws.{closed-if, edition-table}
 use borrow.Author.Needs.{needs}
@@ -50,7 +50,7 @@ with-requires-5 : tie.Need-with-requires-5
 with-requires-5 c κs = search needs
 
 returns : tie.Need-returns
-unfolding collected collectedFrom groupRow
+unfolding collected collectedFrom groupCodeRules
 returns c =
     let a = c .before .before .before .before .before .before .before .before .before .before .before .before .before .before .before .args in
     then 5 (then 4 (then 3 (then 2 (then 1

@@ -3,7 +3,7 @@ use mathlib.Core.Path.{refl}
 use Rattle.verdicts.proofs.Collected.{then}
 use Rattle.rules.specs.Cutting.{split}
 use Rattle.verdicts.specs.Collecting.{collected, collectedFrom}
-use Rattle.verdicts.specs.Rows.{setRow}
+use Rattle.verdicts.specs.Verdicts.{setCodeRules}
 use Rattle.verdicts.proofs.Laws.{closed-if}
 use borrow.Author.Needs.{needs}
 use Rattle.verdicts.proofs.set_codes.Statement.{statement}
@@ -37,7 +37,7 @@ with-requires-6 : tie.Need-with-requires-6
 with-requires-6 c κs = search needs
 
 returns : tie.Need-returns
-unfolding collected collectedFrom setRow
+unfolding collected collectedFrom setCodeRules
 returns c =
     let a = c .before .before .before .before .before .before .before .before .before .before .before .args in
     then 23 (then 5 (then 4 (then 3 (then 2 (then 1

@@ -1,4 +1,4 @@
--- What the codes and counts are decided by: declared counts, editions, and the rows of rules of a set and of a group.
+-- What codes and counts are decided by: declared counts, trailers, editions, and the rules of a set and of a group.
 use Prim.Native.Nat.{ℕ}
 use mathlib.Core.Bool.{Bool, true, false, not}
 use mathlib.Core.List.{List, [], _∷_}
@@ -31,8 +31,8 @@ abbrev pub otherCount : ℕ → ℕ → Option Segment → Bool
 otherCount hi n = holds (λ s. not (declares hi (field s 1) n))
 
 -- the rules of AK5, by ST and SE
-unfoldable pub setRow : Bool → Segment → Option Segment → ℕ → Bool → Bool → List Rule
-setRow known st se segments noted repeated =
+unfoldable pub setCodeRules : Bool → Segment → Option Segment → ℕ → Bool → Bool → List Rule
+setCodeRules known st se segments noted repeated =
     (not known ⇒ 1) ∷
     (isNone se ⇒ 2) ∷
     (otherControl (field st 2) se ⇒ 3) ∷
@@ -42,8 +42,8 @@ setRow known st se segments noted repeated =
     []
 
 -- the rules of AK9, by GS and GE
-unfoldable pub groupRow : Segment → Option Segment → ℕ → List Rule
-groupRow gs ge sets =
+unfoldable pub groupCodeRules : Segment → Option Segment → ℕ → List Rule
+groupCodeRules gs ge sets =
     (not (supported gs) ⇒ 1) ∷
     (isNone (editionTable (edition gs)) ⇒ 2) ∷
     (isNone ge ⇒ 3) ∷
@@ -56,7 +56,7 @@ unfoldable pub editionIn : Bytes → Edition
 editionIn bs = if same bs (ascii "006010") then E006010 else (if same bs (ascii "004010") then E004010 else Other)
 
 -- the table of an edition
-abbrev pub tableOf : Edition → Option Table
-tableOf E006010 = some table006010
-tableOf E004010 = some table004010
-tableOf Other = none
+abbrev pub tableFor : Edition → Option Table
+tableFor E006010 = some table006010
+tableFor E004010 = some table004010
+tableFor Other = none
