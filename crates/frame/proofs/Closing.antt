@@ -1,13 +1,13 @@
 -- The envelope over segments alone: what the segments after GS end with, and the group that they make.
 use mathlib.Core.Path.{_≡_, refl, sym, ap, _∙_}
-use mathlib.Core.Bool.{Bool, true, false, _&&_, not, true≢false, false≢true}
+use mathlib.Core.Bool.{Bool, true, false, _&&_, not, true≢false}
 use mathlib.Core.List.{List, [], _∷_, _++_, append-nil, append-assoc}
-use mathlib.Core.Option.{Option, none, some}
+use mathlib.Core.Option.{Option, none}
 use borrow.Author.Tests.{not-true}
 use lib.ListN.{drop, getD}
 use Rattle.rules.specs.Base.{Bytes, ascii, same, null, all, any, front, last, listed, if_then_else_}
 use Rattle.rules.specs.Cutting.{Segment, field, isNamed}
-use Rattle.rules.specs.Groups.{Group, groupOf, groupWith, isGE}
+use Rattle.rules.specs.Groups.{groupOf, groupWith, isGE}
 use Rattle.rules.specs.Refusals.{isEnvelope, enveloped}
 use Rattle.rules.proofs.Logic.{same→eq, front-snoc, last-snoc, last-all, all-head, all-tail, all-weaken}
 use Rattle.rules.proofs.SetLaws.{isOuter, Optional, missing, there}

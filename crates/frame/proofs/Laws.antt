@@ -1,7 +1,7 @@
 -- What a frame is of its interchange: refusal 7 is due where it is broken, and where it is whole its parts are the group and IEA.
 use mathlib.Core.Path.{_≡_, refl, sym, ap, subst, _∙_}
-use mathlib.Core.Bool.{Bool, true, false, _&&_, not, true≢false, false≢true}
-use mathlib.Core.List.{List, [], _∷_, _++_, map}
+use mathlib.Core.Bool.{Bool, true, false, _&&_, true≢false, false≢true}
+use mathlib.Core.List.{List, [], _∷_, _++_}
 use mathlib.Core.Option.{Option, none, some}
 use Prim.Native.Nat.{ℕ, _+_, _-_, _<_, _≤_}
 use native.Mathlib.Nat.{add-zero, sub-self}
@@ -9,18 +9,17 @@ use native.Mathlib.Omega.{arith}
 use borrow.Author.Tests.{ltb-true, ltb-false, le-leb, lt-leb, leb-true}
 use lib.Dec.{ltb, leb}
 use lib.ListN.{length, drop, getD}
-use lib.Seq.{getD-drop, drop-drop}
+use lib.Seq.{getD-drop}
 use Rattle.rules.specs.Base.{Bytes, ascii, same, null, all, last, listed, first, if_then_else_}
 use Rattle.rules.specs.Cutting.{Segment, field, isNamed, pieces, split, segments}
-use Rattle.rules.specs.Groups.{Group, groupOf, isGE}
+use Rattle.rules.specs.Groups.{groupOf, isGE}
 use Rattle.rules.specs.Refusals.{isEnvelope, enveloped, envelopeRules}
 use Rattle.rules.specs.declared.Delimiters.{Delimiters}
 use Rattle.rules.proofs.Logic.{and-left, and-right, all-append}
 use Rattle.rules.proofs.SetLaws.{isOuter, Optional, missing, there}
-use Rattle.text.specs.Text.{indexOf}
-use Rattle.text.proofs.Search.{find-end, index-none}
+use Rattle.text.proofs.Search.{find-end}
 use Rattle.segments.proofs.Pieces.{WholePart, whole-empty, whole-next, pieces-at, pieces-none, segments-at, segments-none, segments-rest, segments-part}
-use Rattle.frame.specs.Places.{part, endOf, segmentAt, inside, trailerAt, frameOf}
+use Rattle.frame.specs.Places.{part, endOf, segmentAt, inside, trailerAt, frameAt, frameOf}
 use Rattle.frame.specs.declared.Frame.{Frame}
 use Rattle.frame.specs.declared.Framed.{Framed}
 use Rattle.frame.specs.declared.Trailer.{Trailer}
@@ -237,17 +236,7 @@ module _ (d : Delimiters) (i : Bytes) (g : isNamed (ascii "GS") (segmentAt d i (
       (trailed d i (ge d i) .cut ∙ ap (λ (m : List Segment). listed trailer ++ m)
       (segments-from d i (iea d i) iea-within ∙ ap (λ (m : List Segment). segmentAt d i (iea d i) ∷ m) (segments-none d i (endOf d i (iea d i) + 1) l)))
 
-  whole : FrameIs d i (record {
-    gs = gs d i;
-    «gs_end» = endOf d i (gs d i);
-    body = body d i;
-    «body_end» = ge d i;
-    ge = ge d i;
-    «ge_end» = trailerAt d i (ge d i) .end;
-    closed = trailerAt d i (ge d i) .closed;
-    iea = iea d i;
-    «iea_end» = endOf d i (iea d i);
-  })
+  whole : FrameIs d i (frameAt (endOf d i 0) (endOf d i (gs d i)) (ge d i) (trailerAt d i (ge d i)) (endOf d i (iea d i)))
   unfolding segmentAt
   whole =
       let t = trailed d i (ge d i) in

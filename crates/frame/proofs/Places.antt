@@ -1,13 +1,13 @@
 -- Offsets and segments: what stands at an offset, and where the first segment of the envelope starts.
 use mathlib.Core.Path.{_≡_, refl, sym, ap, _∙_}
 use mathlib.Core.Bool.{Bool, true, false, _&&_, true≢false}
-use mathlib.Core.List.{List, [], _∷_}
+use mathlib.Core.List.{[]}
 use Prim.Native.Nat.{ℕ, _+_, _-_, _<_, _≤_}
 use native.Mathlib.Nat.{add-zero}
 use native.Mathlib.Omega.{arith}
 use borrow.Author.Tests.{ltb-true, ltb-false}
 use lib.Dec.{ltb, leb}
-use lib.ListN.{length, take, drop, length-drop, drop-of-length-le}
+use lib.ListN.{length, drop, length-drop, drop-of-length-le}
 use lib.Seq.{length-take-le, take-nil}
 use Rattle.rules.specs.Base.{Bytes, ascii, same, if_then_else_}
 use Rattle.rules.specs.Cutting.{isNamed, pieces, split}
@@ -17,7 +17,7 @@ use Rattle.text.proofs.Search.{find-le, find-end}
 use Rattle.segments.proofs.Pieces.{pieces-at, pieces-none}
 use Rattle.rules.specs.Groups.{isGE}
 use Rattle.rules.specs.declared.Delimiters.{Delimiters}
-use Rattle.frame.specs.Places.{part, endOf, segmentAt, inside, trailerAt, frameOf}
+use Rattle.frame.specs.Places.{part, endOf, segmentAt, inside, trailerAt, frameAt, frameOf}
 use Rattle.frame.specs.declared.Framed.{Framed}
 use Rattle.frame.specs.declared.Framed.the-variants.{Whole, Broken}
 use Rattle.frame.specs.declared.Trailer.{Trailer}
@@ -74,27 +74,17 @@ module _ (d : Delimiters) (i : Bytes) (at end : ℕ) (q : end ≡ endOf d i at) 
   unfolding trailerAt segmentAt
   trailer-missing g = rw (← q, g)
 
-abbrev pub framedBy : Delimiters → Bytes → ℕ → ℕ → ℕ → Trailer → ℕ → Framed
-framedBy d i gs gs-end ge trailer iea-end =
-    if isNamed (ascii "GS") (split (d .element) (part i gs gs-end)) && isNamed (ascii "IEA") (split (d .element) (part i (trailer .next) iea-end))
-    && leb (length i) (iea-end + 1)
-    then Whole (record {
-      gs = gs;
-      «gs_end» = gs-end;
-      body = gs-end + 1;
-      «body_end» = ge;
-      ge = ge;
-      «ge_end» = trailer .end;
-      closed = trailer .closed;
-      iea = trailer .next;
-      «iea_end» = iea-end;
-    })
+abbrev framedBy : Delimiters → Bytes → ℕ → ℕ → ℕ → Trailer → ℕ → Framed
+framedBy d i isa-end gs-end ge trailer iea-end =
+    if isNamed (ascii "GS") (split (d .element) (part i (isa-end + 1) gs-end))
+    && isNamed (ascii "IEA") (split (d .element) (part i (trailer .next) iea-end)) && leb (length i) (iea-end + 1)
+    then Whole (frameAt isa-end gs-end ge trailer iea-end)
     else Broken
 
 pub frame-by : (d : Delimiters) (i : Bytes) {isa-end gs-end ge iea-end : ℕ} {trailer : Trailer}
     → isa-end ≡ endOf d i 0 → gs-end ≡ endOf d i (isa-end + 1)
     → ge ≡ gs-end + 1 + inside (d .element) (pieces (d .terminator) (drop (gs-end + 1) i))
     → trailer ≡ trailerAt d i ge → iea-end ≡ endOf d i (trailer .next)
-    → frameOf d i ≡ framedBy d i (isa-end + 1) gs-end ge trailer iea-end
+    → frameOf d i ≡ framedBy d i isa-end gs-end ge trailer iea-end
 unfolding frameOf segmentAt
 frame-by d i p q r s u = rw (u, s, r, q, p)

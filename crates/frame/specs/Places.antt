@@ -41,7 +41,21 @@ trailerAt d i at =
     if isGE (segmentAt d i at) then record { end = endOf d i at; closed = true; next = endOf d i at + 1 }
     else record { end = at; closed = false; next = at }
 
--- GS is the second segment; after it comes the first other segment of the envelope, which is IEA or GE and then IEA, and nothing after IEA
+-- the frame with the ends of ISA, GS and IEA, the end of the body, and what stands there
+abbrev pub frameAt : ℕ → ℕ → ℕ → Trailer → ℕ → Frame
+frameAt isa-end gs-end body-end trailer iea-end = record {
+  gs = isa-end + 1;
+  «gs_end» = gs-end;
+  body = gs-end + 1;
+  «body_end» = body-end;
+  ge = body-end;
+  «ge_end» = trailer .end;
+  closed = trailer .closed;
+  iea = trailer .next;
+  «iea_end» = iea-end;
+}
+
+-- GS is the second segment; the first other segment of the envelope after it is IEA, or GE with IEA after it; nothing follows IEA
 unfoldable pub frameOf : Delimiters → Bytes → Framed
 frameOf d i =
     let gs = endOf d i 0 + 1 in
@@ -50,15 +64,5 @@ frameOf d i =
     let trailer = trailerAt d i ge in
     let iea = trailer .next in
     if isNamed (ascii "GS") (segmentAt d i gs) && isNamed (ascii "IEA") (segmentAt d i iea) && leb (length i) (endOf d i iea + 1)
-    then Whole (record {
-      gs = gs;
-      «gs_end» = endOf d i gs;
-      body = body;
-      «body_end» = ge;
-      ge = ge;
-      «ge_end» = trailer .end;
-      closed = trailer .closed;
-      iea = iea;
-      «iea_end» = endOf d i iea;
-    })
+    then Whole (frameAt (endOf d i 0) (endOf d i gs) ge trailer (endOf d i iea))
     else Broken

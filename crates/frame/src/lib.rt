@@ -89,9 +89,17 @@ fn trailer_at(i: &[u8], at: usize, d: Delimiters) -> Trailer
 {
     let end = text::find(i, at, d.terminator);
     if is_named_at(i, at, end, d, &GE) {
-        return Trailer { end, closed: true, next: end + 1 };
+        return Trailer {
+            end,
+            closed: true,
+            next: end + 1,
+        };
     }
-    Trailer { end: at, closed: false, next: at }
+    Trailer {
+        end: at,
+        closed: false,
+        next: at,
+    }
 }
 
 // The places of the parts: GS second, IEA last, GE or nothing before it, and no other segment of the envelope after GS.

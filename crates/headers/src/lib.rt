@@ -54,10 +54,11 @@ pub fn header_refusal(gs: &[u8], d: Delimiters) -> u8
     if segments::field_count(gs, d.element) != 9 {
         return 9;
     }
-    if segments::field(gs, d.element, 1).len() != 2 {
+    let code = segments::field(gs, d.element, 1);
+    if code.len() != 2 {
         return 9;
     }
-    if !text::is_name(segments::field(gs, d.element, 1)) {
+    if !text::is_name(code) {
         return 9;
     }
     if !text::is_text(segments::field(gs, d.element, 2), 2, 15, d) {

@@ -1,5 +1,6 @@
+-- `frame::envelope_from` meets its contract.
 use mathlib.Core.Path.{_≡_, refl, sym, ap, _∙_}
-use Prim.Native.Nat.{_+_, _-_, _≤_}
+use Prim.Native.Nat.{_+_, _-_}
 use lib.ListN.{length, drop}
 use Rattle.rules.specs.Cutting.{pieces}
 use Rattle.text.proofs.Search.{find-end}
@@ -9,11 +10,6 @@ use borrow.Author.Needs.{needs}
 use native.Mathlib.Omega.{arith}
 use Rattle.frame.proofs.envelope_from.Statement.{statement}
 use Rattle.frame.proofs.envelope_from.Tie as tie
-use Rattle.frame.proofs.envelope_from.Reads as reads
-use Rattle.frame.proofs.envelope_from.Lts as lts
-use Rattle.frame.proofs.is_envelope_name.Reads as is-envelope-name-reads
-use Rattle.segments.proofs.id.Reads as id-reads
-use Rattle.text.proofs.find.Reads as find-reads
 
 abbrev Inv-loop : tie.InvT-loop
 Inv-loop i from d at₀ at = from + inside (d .element) (pieces (d .terminator) (drop from i)) ≡ at + inside (d .element) (pieces (d .terminator) (drop at i))
@@ -21,51 +17,39 @@ Inv-loop i from d at₀ at = from + inside (d .element) (pieces (d .terminator) 
 abbrev μ-loop : tie.MeasureT-loop
 μ-loop i from d at₀ at = length i + 1 - at
 
--- src/lib.rt:71:5
 loop-holds : tie.Need-loop-holds Inv-loop μ-loop
 loop-holds c = refl
 
--- src/lib.rt:72:13
 find-requires : tie.Need-find-requires Inv-loop μ-loop
 find-requires c κs = search needs
 
--- src/lib.rt:73:42
 sub-id : tie.Need-sub-id Inv-loop μ-loop
 sub-id c = search needs
 
--- src/lib.rt:73:42
 part-id-start : tie.Need-part-id-start Inv-loop μ-loop
 part-id-start c = search needs
 
--- src/lib.rt:73:42
 part-id-end : tie.Need-part-id-end Inv-loop μ-loop
 part-id-end c = find-end _ _ _ _ (c .find .ensures) (c .before .loop-test .taken)
 
--- src/lib.rt:73:29
 id-requires : tie.Need-id-requires Inv-loop μ-loop
 id-requires c κs = search needs
 
--- src/lib.rt:73:12
 is-envelope-name-requires : tie.Need-is-envelope-name-requires Inv-loop μ-loop
 is-envelope-name-requires c κs = search needs
 
--- src/lib.rt:74:13
 returns : tie.Need-returns Inv-loop μ-loop
 returns c = sym (c .before .before .before .before .before .before .loop .inv ∙ inside-here _ _ _ _ _ (c .before .before .before .before .before .loop-test .taken) (c .before .before .before .before .find .ensures) (ap isEnvelopeName (sym (c .before .before .id .ensures)) ∙ sym (c .before .is-envelope-name .ensures) ∙ c .if1 .taken))
 
--- src/lib.rt:76:14
 add-at : tie.Need-add-at Inv-loop μ-loop
 add-at c = let within = find-end _ _ _ _ (c .before .before .before .before .find .ensures) (c .before .before .before .before .before .loop-test .taken) in omega arith
 
--- src/lib.rt:71:5
 loop-less : tie.Need-loop-less Inv-loop μ-loop
 loop-less c = search needs
 
--- src/lib.rt:71:5
 loop-again : tie.Need-loop-again Inv-loop μ-loop
 loop-again c = c .before .before .before .before .before .before .loop .inv ∙ inside-later _ _ _ _ _ (c .before .before .before .before .before .loop-test .taken) (c .before .before .before .before .find .ensures) (ap isEnvelopeName (sym (c .before .before .id .ensures)) ∙ sym (c .before .is-envelope-name .ensures) ∙ c .if1 .left)
 
--- src/lib.rt:67:1
 returns-2 : tie.Need-returns-2 Inv-loop μ-loop
 returns-2 c = sym (c .before .loop .inv ∙ inside-none _ _ _ _ (c .loop-test .left))
 

@@ -1,52 +1,39 @@
+-- `frame::is_named_at` meets its contract.
 use mathlib.Core.Path.{sym, ap, _∙_}
 use Rattle.rules.specs.Base.{Bytes}
 use Rattle.rules.specs.Cutting.{isNamed, split}
 use Rattle.frame.proofs.Places.{part-past, past-end}
-use native.Mathlib.Omega.{arith}
 use borrow.Author.Needs.{needs}
 use Rattle.frame.proofs.is_named_at.Statement.{statement}
 use Rattle.frame.proofs.is_named_at.Tie as tie
-use Rattle.frame.proofs.is_named_at.Reads as reads
-use Rattle.frame.proofs.is_named_at.Lts as lts
-use Rattle.segments.proofs.is_named.Reads as is-named-reads
 
--- src/lib.rt:87:35
 sub-is-named : tie.Need-sub-is-named
 sub-is-named c = search needs
 
--- src/lib.rt:87:35
 part-is-named-start : tie.Need-part-is-named-start
 part-is-named-start c = search needs
 
--- src/lib.rt:87:35
 part-is-named-end : tie.Need-part-is-named-end
 part-is-named-end c = search needs
 
--- src/lib.rt:87:9
 is-named-requires : tie.Need-is-named-requires
 is-named-requires c κs = search needs
 
--- src/lib.rt:87:9
 returns : tie.Need-returns
 returns c = let a = c .before .before .before .before .before .args in c .is-named .ensures ∙ ap (λ (s : Bytes). isNamed (a .name .now) (split (a .d .element) s)) (sym (part-past (a .i .now) (a .at) (a .end) (past-end _ _ _ _ (c .before .before .before .before .before .pre) (c .before .before .if1 .taken))))
 
--- src/lib.rt:89:24
 sub-is-named-2 : tie.Need-sub-is-named-2
 sub-is-named-2 c = search needs
 
--- src/lib.rt:89:24
 part-is-named-start-2 : tie.Need-part-is-named-start-2
 part-is-named-start-2 c = search needs
 
--- src/lib.rt:89:24
 part-is-named-end-2 : tie.Need-part-is-named-end-2
 part-is-named-end-2 c = search needs
 
--- src/lib.rt:89:5
 is-named-requires-2 : tie.Need-is-named-requires-2
 is-named-requires-2 c κs = search needs
 
--- src/lib.rt:82:1
 returns-2 : tie.Need-returns-2
 returns-2 c = search needs
 

@@ -1,33 +1,24 @@
+-- `headers::answer_refusal` meets its contract.
 use mathlib.Core.Path.{sym, ap, _∙_}
 use Rattle.rules.specs.Base.{Bytes, ascii, same, first}
 use Rattle.headers.specs.Rules.{acknowledgmentRules}
-use native.Mathlib.Omega.{arith}
 use borrow.Author.Needs.{needs}
 use Rattle.headers.proofs.answer_refusal.Statement.{statement}
 use Rattle.headers.proofs.answer_refusal.Tie as tie
-use Rattle.headers.proofs.answer_refusal.Reads as reads
-use Rattle.headers.proofs.answer_refusal.Lts as lts
-use Rattle.segments.proofs.field.Reads as field-reads
-use Rattle.text.proofs.same_bytes.Reads as same-bytes-reads
 
--- src/lib.rt:215:25
 field-requires : tie.Need-field-requires
 field-requires c κs = search needs
 
--- src/lib.rt:215:60
 slice-aggregate-same-bytes : tie.Need-slice-aggregate-same-bytes
 slice-aggregate-same-bytes c = search needs
 
--- src/lib.rt:215:8
 same-bytes-requires : tie.Need-same-bytes-requires
 same-bytes-requires c κs = search needs
 
--- src/lib.rt:216:9
 returns : tie.Need-returns
 unfolding first acknowledgmentRules
 returns c = simp (ap (λ (f : Bytes). same f (ascii "FA")) (sym (c .before .before .before .field .ensures)) ∙ sym (c .before .same-bytes .ensures) ∙ c .if1 .taken)
 
--- src/lib.rt:212:1
 returns-2 : tie.Need-returns-2
 unfolding first acknowledgmentRules
 returns-2 c = simp (ap (λ (f : Bytes). same f (ascii "FA")) (sym (c .before .before .before .field .ensures)) ∙ sym (c .before .same-bytes .ensures) ∙ c .if1 .left)

@@ -1,38 +1,28 @@
-use mathlib.Core.Path.{_≡_, sym, ap, _∙_}
+-- `headers::counts_groups` meets its contract.
+use mathlib.Core.Path.{sym, ap, _∙_}
 use lib.Dec.{eqb, lit≤}
 use Rattle.rules.specs.Numbers.{digits, declared}
 use Rattle.text.specs.Text.{upToTen}
 use Rattle.text.proofs.Digits.{value-of}
-use native.Mathlib.Omega.{arith}
 use borrow.Author.Needs.{needs}
 use Rattle.headers.proofs.counts_groups.Statement.{statement}
 use Rattle.headers.proofs.counts_groups.Tie as tie
-use Rattle.headers.proofs.counts_groups.Reads as reads
-use Rattle.headers.proofs.counts_groups.Lts as lts
-use Rattle.segments.proofs.field.Reads as field-reads
-use Rattle.text.proofs.is_digits.Reads as is-digits-reads
-use Rattle.text.proofs.value.Reads as value-reads
 
--- src/lib.rt:147:9
 field-requires : tie.Need-field-requires
 field-requires c κs = search needs
 
--- src/lib.rt:148:5
 is-digits-requires : tie.Need-is-digits-requires
 is-digits-requires c κs = search needs
 
--- src/lib.rt:148:45
 value-requires : tie.Need-value-requires
 value-requires c κs = search needs
 
--- src/lib.rt:144:1
 returns : tie.Need-returns
 unfolding declared
 returns c =
     let known = ap (digits 1 5) (sym (c .before .before .before .field .ensures)) ∙ sym (c .before .before .is-digits .ensures) ∙ c .before .if1 .taken in
     rw known (ap (eqb (c .before .before .before .before .before .args .n)) (c .value .ensures ∙ ap upToTen (c .before .before .before .field .ensures) ∙ value-of 1 5 _ known (lit≤ tt)))
 
--- src/lib.rt:144:1
 returns-2 : tie.Need-returns-2
 unfolding declared
 returns-2 c = rw (ap (digits 1 5) (sym (c .before .before .field .ensures)) ∙ sym (c .before .is-digits .ensures) ∙ c .if1 .left) (c .if1 .left)
