@@ -1,0 +1,18 @@
+-- `headers::closes` meets its contract.
+use mathlib.Core.Path.{ap, _∙_}
+use Rattle.rules.specs.Base.{Bytes, same}
+use borrow.Author.Needs.{needs}
+use Rattle.headers.proofs.closes.Statement.{statement}
+use Rattle.headers.proofs.closes.Tie as tie
+
+field-requires : tie.Need-field-requires
+field-requires c κs = search needs
+
+same-bytes-requires : tie.Need-same-bytes-requires
+same-bytes-requires c κs = search needs
+
+returns : tie.Need-returns
+returns c = c .same-bytes .ensures ∙ ap (λ (f : Bytes). same f (c .before .before .before .before .args .isa13 .now)) (c .before .field .ensures)
+
+pub closes-spec : {M : Type 1} → statement M
+closes-spec = tie.close (tie.spec field-requires same-bytes-requires returns)
