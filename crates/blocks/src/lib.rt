@@ -54,7 +54,7 @@ pub fn add_gs(
     ensures { λ r. ⌜ From n (segmentOut d (gsOut (split (d .element) (now (gs .entry))) date time control)) r (now (out .entry)) (now (out .exit)) ⌝ }
 {
     let n = writing::add_bytes(out, n, &rules::GS);
-    let n = writing::add_field(out, n, d, b"FA");
+    let n = writing::add_field(out, n, d, &rules::FA);
     let n = writing::add_field(out, n, d, segments::field(gs, d.element, 3));
     let n = writing::add_field(out, n, d, segments::field(gs, d.element, 2));
     let n = writing::add_fixed(out, n, d, date as u64, 8);

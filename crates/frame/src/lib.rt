@@ -5,14 +5,10 @@ ghost use lib.ListN.{drop};
 ghost use Rattle.rules.specs.Cutting.{isNamed, pieces, split};
 ghost use Rattle.frame.specs.Places.{part, endOf, isEnvelopeName, inside, trailerAt, frameOf};
 use rules::Delimiters;
-
-const ISA: [u8; 3] = *b"ISA";
-
-const GS: [u8; 2] = *b"GS";
-
-const GE: [u8; 2] = *b"GE";
-
-const IEA: [u8; 3] = *b"IEA";
+use rules::GE;
+use rules::GS;
+use rules::IEA;
+use rules::ISA;
 
 // The places of an interchange's parts, as offsets: each starts at one and ends before the other.
 // The body holds the terminator of its last segment; where GE is missing, its part is empty.

@@ -5,9 +5,7 @@ ghost use Rattle.rules.specs.Cutting.{split};
 ghost use Rattle.rules.specs.Refusals as refusals;
 ghost use Rattle.headers.specs.Rules.{headerRules, acknowledgmentRules};
 use rules::Delimiters;
-
-// GS01 of an acknowledgment.
-const FA: [u8; 2] = *b"FA";
+use rules::FA;
 
 // IEA has exactly two elements.
 fn has_two(iea: &[u8], d: Delimiters) -> bool

@@ -26,6 +26,9 @@ pub const AK5: [u8; 3] = *b"AK5";
 
 pub const AK9: [u8; 3] = *b"AK9";
 
+// GS01 of an acknowledgment.
+pub const FA: [u8; 2] = *b"FA";
+
 // The limits of an interchange, in bytes.
 pub struct Interchange {
     pub length: usize,

@@ -57,10 +57,10 @@ pub fn next_set(body: &[u8], d: Delimiters, at: usize) -> SetAt
     while next < body.len() {
         let end = text::find(body, next, d.terminator);
         let id = segments::id(&body[next..end], d.element);
-        if text::same_bytes(id, b"SE") {
+        if text::same_bytes(id, &rules::SE) {
             return SetAt::with_trailer(header, next, end + 1);
         }
-        if text::same_bytes(id, b"ST") {
+        if text::same_bytes(id, &rules::ST) {
             return SetAt::without_trailer(header, next);
         }
         next = end + 1;
@@ -104,7 +104,7 @@ pub fn set_refusal(body: &[u8], d: Delimiters) -> u8
     while at < body.len() {
         let set = next_set(body, d, at);
         let header = part(body, at, set.header);
-        if !segments::is_named(header, d.element, b"ST") {
+        if !segments::is_named(header, d.element, &rules::ST) {
             return 11;
         }
         at = set.end;
