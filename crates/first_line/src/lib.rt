@@ -1,0 +1,77 @@
+// The first line of the program's input, and the text that the program prints for a refusal.
+ghost use mathlib.Core.Path.{_≡_};
+ghost use Rattle.rules.specs.Program.{isCall, refusedText};
+ghost use Rattle.writing.specs.Over.{Wrote};
+ghost use Rattle.first_line.specs.Calls.{callOn, callIn};
+use text::is_digits;
+use text::value;
+
+// Where the parts of the line stand: the date, a space, the time, a space, the control number.
+const DATE_END: usize = 8;
+
+const TIME: usize = 9;
+
+const TIME_END: usize = 13;
+
+const CONTROL: usize = 14;
+
+// What the first line says: the date, the time, the control number and where the interchange starts.
+pub enum Call {
+    Numbers(u32, u32, u32, usize),
+    Bad,
+}
+
+// The call that an input makes, by its first line; bad where that has no LF.
+pub fn call_of(input: &[u8]) -> Call
+    ensures { λ r. ⌜ r ≡ callIn (now (input .entry)) ⌝ }
+{
+    let end = text::find(input, 0, b'\n');
+    if input.len() <= end {
+        return Call::Bad;
+    }
+    call_on(&input[..end])
+}
+
+// The call on a line that an LF ends; the interchange starts after that.
+fn call_on(line: &[u8]) -> Call
+    ensures { λ r. ⌜ r ≡ callOn (now (line .entry)) ⌝ }
+{
+    if !is_call(line) {
+        return Call::Bad;
+    }
+    let date = value(&line[..DATE_END]) as u32;
+    let time = value(&line[TIME..TIME_END]) as u32;
+    let control = value(&line[CONTROL..]) as u32;
+    Call::Numbers(date, time, control, line.len() + 1)
+}
+
+// 8, 4 and 1 to 9 digits with one space between.
+fn is_call(line: &[u8]) -> bool
+    ensures { λ r. ⌜ r ≡ isCall (now (line .entry)) ⌝ }
+{
+    if line.len() <= CONTROL {
+        return false;
+    }
+    if !is_digits(&line[..DATE_END], 8, 8) {
+        return false;
+    }
+    if line[DATE_END] != b' ' {
+        return false;
+    }
+    if !is_digits(&line[TIME..TIME_END], 4, 4) {
+        return false;
+    }
+    if line[TIME_END] != b' ' {
+        return false;
+    }
+    is_digits(&line[CONTROL..], 1, 9)
+}
+
+// `refused`, the number and LF.
+pub fn put_refused(out: &mut [u8], number: u8) -> usize
+    ensures { λ r. ⌜ Wrote (refusedText number) r (now (out .entry)) (now (out .exit)) ⌝ }
+{
+    let n = writing::add_bytes(out, 0, b"refused ");
+    let n = writing::add_number(out, n, number as u64);
+    writing::add_byte(out, n, b'\n')
+}
