@@ -165,3 +165,9 @@ out-segments d b [] e = cut-rejoins d b (eqb b (d .terminator)) refl [] (λ f. a
 out-segments d b (x ∷ xs) e =
     cut-rejoins d b (eqb b (d .terminator)) refl (pieces (d .terminator) (x ∷ xs)) (λ f. pieces-some (d .terminator) x xs)
     ∙ ap (λ (l : Bytes). b ∷ l) (out-segments d x xs e)
+
+-- 5. Segments one after the other.
+pub out-append : (d : Delimiters) (xs ys : List Segment) → out d (xs ++ ys) ≡ out d xs ++ out d ys
+unfolding out
+out-append d [] ys = refl
+out-append d (x ∷ xs) ys = rw (out-append d xs ys) (sym (append-assoc (segmentOut d x) (out d xs) (out d ys)))

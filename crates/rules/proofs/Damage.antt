@@ -21,7 +21,7 @@ use Rattle.rules.specs.declared.Answer.{Answer}
 use Rattle.rules.specs.declared.Answer.the-variants.{Written}
 use Rattle.rules.specs.declared.Delimiters.{Delimiters}
 use Rattle.rules.proofs.Logic.{and-left, and-right, all-head, all-tail, all-cons, all-append, all-left, all-right, all-weaken, last-snoc}
-use Rattle.rules.proofs.Cuts.{segments-out, segments-whole, out-segments}
+use Rattle.rules.proofs.Cuts.{segments-out, segments-whole, out-segments, out-append}
 use Rattle.rules.proofs.SetLaws.{isOuter, Optional, Sets, no-set, more, sets-flat, outer-flat, stray-flat}
 use Rattle.rules.proofs.Envelope.{delimiters-head, framed-head, isa-head, Header, Clear, clear, Answered, made, first-cut, first-segment, rest-cut, around, group-around, last-around}
 
@@ -188,11 +188,6 @@ module _ {i j : Bytes} {before after : List Set} (h : Spoiled i j before after) 
   same-opening date time control = rw (group-after, group-before, same-delimiters, same-isa)
 
 -- 4. The bytes of a response: its opening, its blocks, and what follows them.
-out-append : (d : Delimiters) (xs ys : List Segment) → out d (xs ++ ys) ≡ out d xs ++ out d ys
-unfolding out
-out-append d [] ys = refl
-out-append d (x ∷ xs) ys = rw (out-append d xs ys) (sym (append-assoc (segmentOut d x) (out d xs) (out d ys)))
-
 out-blocks : (d : Delimiters) (rs : List SetReport) → out d (blocks rs) ≡ joined (map (λ r. out d (block r)) rs)
 unfolding out blocks joined
 out-blocks d [] = refl

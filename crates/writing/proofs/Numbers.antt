@@ -1,10 +1,8 @@
 -- The laws of `decimal`, `padded` and `optional`: one digit more, and how long they are.
 use mathlib.Core.Path.{_≡_, refl, ap}
-use mathlib.Core.Bool.{Bool, true, false}
 use mathlib.Core.List.{[], _∷_, _++_}
 use Prim.Native.Nat.{ℕ, zero, suc, _+_, _-_, _*_, _/_, _%_, _≤_, _<_}
 use native.Mathlib.Omega.{arith}
-use lib.ListN.{length, length-append}
 use lib.Dec.{ltb}
 use borrow.Author.Tests.{lt-ltb, le-ltb, eq-eqb, ne-eqb}
 use Rattle.rules.specs.Base.{Bytes, if_then_else_}
@@ -44,22 +42,3 @@ optional-none n e = rw (eq-eqb n 0 e)
 
 pub optional-some : (n : ℕ) → (n ≡ 0 → ⊥) → optional n ≡ decimal n
 optional-some n h = rw (ne-eqb n 0 h)
-
--- a number has at most twenty digits
-digitsOf-short : (f n : ℕ) → length (digitsOf f n) ≤ suc f
-unfolding digitsOf
-digitsOf-short zero n = omega arith
-digitsOf-short (suc f) n = either (ltb n 10) (digitsOf f (n / 10)) (digitsOf-short f (n / 10))
-  where
-    either : (b : Bool) (l : Bytes) → length l ≤ suc f → length (if b then (48 + n) ∷ [] else l ++ (48 + n % 10) ∷ []) ≤ suc (suc f)
-    either true l h = omega arith
-    either false l h = simp length-append (omega arith)
-
-pub decimal-short : (n : ℕ) → length (decimal n) ≤ 20
-unfolding decimal
-decimal-short n = digitsOf-short 19 n
-
-pub length-padded : (w n : ℕ) → length (padded w n) ≡ w
-unfolding padded
-length-padded zero n = refl
-length-padded (suc w) n = simp length-append (omega (arith, length-padded w (n / 10)))

@@ -10,6 +10,7 @@ use Rattle.rules.specs.Cutting.{Segment}
 use Rattle.rules.specs.Numbers.{decimal}
 use Rattle.rules.specs.Response.{fieldsOut, segmentOut, out}
 use Rattle.rules.specs.declared.Delimiters.{Delimiters}
+use Rattle.rules.proofs.Cuts.{out-append}
 use Rattle.writing.specs.Over.{From}
 use Rattle.writing.proofs.Laws.{seq, said}
 
@@ -51,11 +52,6 @@ pub end : {d : Delimiters} {id o o₁ o₂ : Bytes} {fs : Segment} {s n r : ℕ}
 end a b = seq (a .text) b
 
 -- 3. A list of segments.
-pub out-append : (d : Delimiters) (ss us : List Segment) → out d (ss ++ us) ≡ out d ss ++ out d us
-unfolding out
-out-append d [] us = refl
-out-append d (s ∷ ss) us = ap (λ (l : Bytes). segmentOut d s ++ l) (out-append d ss us) ∙ sym (append-assoc (segmentOut d s) (out d ss) (out d us))
-
 -- a piece that is a segment
 pub one : (d : Delimiters) (s : Segment) {o o₁ : Bytes} {n r : ℕ} → From n (segmentOut d s) r o o₁ → From n (out d (s ∷ [])) r o o₁
 unfolding out
