@@ -1,24 +1,24 @@
 -- What the definitions promise: one outcome for each call, a verdict by the codes alone, and counts that count.
 use mathlib.Core.Path.{_≡_, refl, sym, _∙_, ap}
 use mathlib.Core.Bool.{Bool, true, false, _&&_, false≢true}
-use mathlib.Core.List.{List, [], _∷_, _++_, append-nil}
+use mathlib.Core.List.{List, [], _∷_, _++_, map, append-nil, append-assoc}
 use Prim.Native.Nat.{ℕ, zero, suc, _+_, _≤_}
 use native.Mathlib.Omega.{arith}
 use native.Mathlib.Numerals.{add-one}
 use borrow.Author.Tests.{leb-true}
-use lib.Dec.{leb}
+use lib.Dec.{T, leb, eqb}
 use lib.ListN.{length, length-append}
 use Rattle.rules.specs.Base.{Bytes, ascii, null, same, all, keep, last, Rule, _⇒_, first, if_then_else_}
-use Rattle.rules.specs.Cutting.{Segment, field}
+use Rattle.rules.specs.Cutting.{Segment, field, delimiters, isa, segments}
 use Rattle.rules.specs.Numbers.{decimal}
 use Rattle.rules.specs.Sets.{Set, controlOf, setReport, SetReport, accepted}
-use Rattle.rules.specs.Groups.{Group, sets, tableIn, setReports, acceptedIn, GroupReport, groupReport}
+use Rattle.rules.specs.Groups.{Group, groupOf, sets, tableIn, setReports, acceptedIn, GroupReport, groupReport}
 use Rattle.rules.specs.Refusals.{callRules, headRules, endRules, envelopeRules, trailerRules, groupRules, answerRules, setRules, refusalRules, refusal}
 use Rattle.rules.specs.Response.{ak5, seOut, told, transactionSet}
 use Rattle.rules.specs.Answers.{Allowed, answer, buffer, outcome}
 use Rattle.rules.specs.declared.Answer.{Answer}
 use Rattle.rules.specs.declared.Delimiters.{Delimiters}
-use Rattle.rules.proofs.Logic.{and-left, and-right, last-snoc}
+use Rattle.rules.proofs.Logic.{and-left, and-right, last-snoc, orElse, numbered, first-append, both-left, both-right}
 
 -- 1. Two allowed outcomes coincide: the answer, and with it number and length, and every byte of the buffer.
 module _ (i lent : Bytes) (date time control : ℕ) (a₁ a₂ : Answer) (l₁ l₂ : Bytes)
@@ -81,3 +81,67 @@ first-low ((false ⇒ n) ∷ rs) e = first-low rs (and-right (leb n 13) (low rs)
 pub refusal-low : (i : Bytes) (date time control : ℕ) → refusal i date time control ≤ 13
 unfolding refusal refusalRules callRules headRules endRules envelopeRules trailerRules groupRules answerRules setRules
 refusal-low i date time control = first-low (refusalRules i date time control) refl
+
+-- 6. The refusal is that of the first block of rules that has one.
+abbrev pub firstOf : List ℕ → ℕ
+firstOf [] = 0
+firstOf (n ∷ ns) = orElse n (eqb n 0) (firstOf ns)
+
+-- blocks of rules, one after the other
+abbrev inOrder : List (List Rule) → List Rule
+inOrder [] = []
+inOrder (rs ∷ rss) = rs ++ inOrder rss
+
+abbrev allNumbered : List (List Rule) → Bool
+allNumbered [] = true
+allNumbered (rs ∷ rss) = numbered rs && allNumbered rss
+
+first-in-order : (rss : List (List Rule)) → T (allNumbered rss) → first (inOrder rss) ≡ firstOf (map first rss)
+unfolding first
+first-in-order [] t = refl
+first-in-order (rs ∷ rss) t =
+    first-append rs (inOrder rss) (both-left (numbered rs) (allNumbered rss) t)
+    ∙ ap (orElse (first rs) (eqb (first rs) 0)) (first-in-order rss (both-right (numbered rs) (allNumbered rss) t))
+
+module _ (i : Bytes) (date time control : ℕ) where
+  abbrev ruleBlocks : List (List Rule)
+  ruleBlocks =
+      let d = delimiters i in
+      let ss = segments d i in
+      let g = groupOf ss in
+      callRules date time control
+      ∷ (headRules i
+      ∷ (endRules i
+      ∷ (envelopeRules ss
+      ∷ (trailerRules (last [] ss) 1 (field (isa i) 13)
+      ∷ (groupRules d g
+      ∷ (answerRules g
+      ∷ (setRules d g
+      ∷ [])))))))
+
+  rules-in-order : refusalRules i date time control ≡ inOrder ruleBlocks
+  unfolding refusalRules
+  rules-in-order = simp (append-assoc, append-nil)
+
+  blocks-numbered : T (allNumbered ruleBlocks)
+  unfolding callRules headRules endRules envelopeRules trailerRules groupRules answerRules setRules
+  blocks-numbered = tt
+
+pub refusal-blocks : (i : Bytes) (date time control : ℕ)
+    → let d = delimiters i in
+    let ss = segments d i in
+    let g = groupOf ss in
+    refusal i date time control
+    ≡ firstOf (
+    first (callRules date time control)
+    ∷ (first (headRules i)
+    ∷ (first (endRules i)
+    ∷ (first (envelopeRules ss)
+    ∷ (first (trailerRules (last [] ss) 1 (field (isa i) 13))
+    ∷ (first (groupRules d g)
+    ∷ (first (answerRules g)
+    ∷ (first (setRules d g)
+    ∷ []))))))))
+unfolding refusal
+refusal-blocks i date time control =
+    ap first (rules-in-order i date time control) ∙ first-in-order (ruleBlocks i date time control) (blocks-numbered i date time control)
