@@ -83,7 +83,7 @@ unfolding refusal refusalRules callRules headRules endRules envelopeRules traile
 refusal-low i date time control = first-low (refusalRules i date time control) refl
 
 -- 6. The refusal is that of the first block of rules that has one.
-abbrev pub firstOf : List ℕ → ℕ
+unfoldable pub firstOf : List ℕ → ℕ
 firstOf [] = 0
 firstOf (n ∷ ns) = orElse n (eqb n 0) (firstOf ns)
 
@@ -97,7 +97,7 @@ allNumbered [] = true
 allNumbered (rs ∷ rss) = numbered rs && allNumbered rss
 
 first-in-order : (rss : List (List Rule)) → T (allNumbered rss) → first (inOrder rss) ≡ firstOf (map first rss)
-unfolding first
+unfolding first firstOf
 first-in-order [] t = refl
 first-in-order (rs ∷ rss) t =
     first-append rs (inOrder rss) (both-left (numbered rs) (allNumbered rss) t)

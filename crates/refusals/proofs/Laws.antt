@@ -1,0 +1,95 @@
+-- The first number that is not 0, block by block, and the blocks over the parts of a frame.
+use mathlib.Core.Path.{_≡_, refl, sym, _∙_, ap}
+use mathlib.Core.Bool.{Bool, true, false}
+use mathlib.Core.List.{List, [], _∷_}
+use Prim.Native.Nat.{ℕ}
+use native.Mathlib.Omega.{arith}
+use borrow.Author.Tests.{eqb-true, ne-eqb}
+use lib.Dec.{eqb}
+use Rattle.rules.specs.Base.{Bytes, first, last}
+use Rattle.rules.specs.Cutting.{Segment, field, isa, delimiters, segments, split}
+use Rattle.rules.specs.Groups.{Group, groupOf}
+use Rattle.rules.specs.Refusals.{callRules, headRules, endRules, envelopeRules, trailerRules, groupRules, answerRules, setRules, refusal}
+use Rattle.rules.specs.declared.Delimiters.{Delimiters}
+use Rattle.rules.proofs.Facts.{firstOf, refusal-blocks}
+use Rattle.frame.specs.Places.{part, frameOf}
+use Rattle.frame.specs.declared.Frame.{Frame}
+use Rattle.frame.specs.declared.Framed.the-variants.{Whole, Broken}
+use Rattle.frame.proofs.Laws.{FrameIs, whole-is, whole-passes, broken-refused}
+use Rattle.headers.specs.Rules.{headerRules, acknowledgmentRules}
+use Rattle.headers.proofs.Laws.{header-rules, acknowledgment-rules}
+use Rattle.sets.specs.Groups.{setRefusal}
+use Rattle.sets.proofs.Refused.{refusal-of}
+use Rattle.refusals.specs.Checks.{innerRefusal, checked}
+use Rattle.refusals.specs.declared.Checked.the-variants.{Sound, Refused}
+
+-- 1. The first that is not 0.
+pub here : {n m : ℕ} (ns : List ℕ) → n ≡ m → (n ≡ 0 → ⊥) → n ≡ firstOf (m ∷ ns)
+unfolding firstOf
+here {n} {m} ns e h = rw (← e, ne-eqb n 0 h)
+
+pub onward : {n m k : ℕ} (ns : List ℕ) → m ≡ k → m ≡ 0 → n ≡ firstOf ns → n ≡ firstOf (k ∷ ns)
+unfolding firstOf
+onward {n} {m} {k} ns e z r = rw (← e, z) r
+
+pub only : {n m : ℕ} → n ≡ m → n ≡ firstOf (m ∷ [])
+unfolding firstOf
+only {n} {m} e = e ∙ go (eqb m 0) refl
+  where
+    go : (b : Bool) → eqb m 0 ≡ b → m ≡ firstOf (m ∷ [])
+    go true p = rw p (eqb-true m 0 p)
+    go false p = rw p
+
+-- 2. The blocks over the parts of a frame.
+module _ {d : Delimiters} {i : Bytes} {f : Frame} (w : FrameIs d i f) where
+  pub trailer-block : {n : ℕ} {x : Bytes} → x ≡ field (isa i) 13 → n ≡ first (trailerRules (split (d .element) (part i (f .iea) (f .«iea_end»))) 1 x)
+      → n ≡ first (trailerRules (last [] (segments d i)) 1 (field (isa i) 13))
+  trailer-block {n} {x} e p = p ∙ rw (e, w .iea-last)
+
+  pub header-block : {n : ℕ} → n ≡ first (headerRules d (split (d .element) (part i (f .gs) (f .«gs_end»))))
+      → n ≡ first (groupRules d (groupOf (segments d i)))
+  header-block p = p ∙ rw (w .group, header-rules)
+
+  pub answer-block : {n : ℕ} → n ≡ first (acknowledgmentRules (split (d .element) (part i (f .gs) (f .«gs_end»))))
+      → n ≡ first (answerRules (groupOf (segments d i)))
+  answer-block p = p ∙ rw (w .group, acknowledgment-rules)
+
+  pub sets-block : {n : ℕ} → n ≡ setRefusal d (segments d (part i (f .body) (f .«body_end»)))
+      → n ≡ first (setRules d (groupOf (segments d i)))
+  sets-block p = p ∙ rw (w .group, refusal-of)
+
+-- 3. The answer of the checks.
+module _ (i : Bytes) (date time control : ℕ) where
+  pub refused : (n : ℕ) → n ≡ refusal i date time control → (n ≡ 0 → ⊥) → Refused n ≡ checked i date time control
+  unfolding checked
+  refused n e h = rw (← e, ne-eqb n 0 h)
+
+  pub broken : refusal i date time control ≡ 7 → Refused 7 ≡ checked i date time control
+  unfolding checked
+  broken e = rw e
+
+  pub sound : (f : Frame) → 0 ≡ refusal i date time control → Whole f ≡ frameOf (delimiters i) i → Sound f ≡ checked i date time control
+  unfolding checked
+  sound f e w = rw (← e, ← w)
+
+-- where the first three blocks pass, the frame decides
+module _ (i : Bytes) (date time control : ℕ) {a b c : ℕ} (p : a ≡ first (callRules date time control)) (p₀ : a ≡ 0) (q : b ≡ first (headRules i))
+    (q₀ : b ≡ 0) (r : c ≡ first (endRules i)) (r₀ : c ≡ 0) where
+  past-three : (n : ℕ)
+      → n ≡ firstOf (
+      first (envelopeRules (segments (delimiters i) i))
+      ∷ (first (trailerRules (last [] (segments (delimiters i) i)) 1 (field (isa i) 13))
+      ∷ (first (groupRules (delimiters i) (groupOf (segments (delimiters i) i)))
+      ∷ (first (answerRules (groupOf (segments (delimiters i) i)))
+      ∷ (first (setRules (delimiters i) (groupOf (segments (delimiters i) i)))
+      ∷ [])))))
+      → n ≡ refusal i date time control
+  past-three n e = onward _ p p₀ (onward _ q q₀ (onward _ r r₀ e)) ∙ sym (refusal-blocks i date time control)
+
+  pub inner-decides : {d : Delimiters} {f : Frame} {n : ℕ} → d ≡ delimiters i → frameOf d i ≡ Whole f → n ≡ innerRefusal d i → n ≡ refusal i date time control
+  unfolding innerRefusal
+  inner-decides {d} {f} {n} e w k =
+      past-three n (onward _ (sym (whole-passes (delimiters i) i {f = f} (rw e at w))) refl (rw e at k))
+
+  pub broken-decides : {d : Delimiters} → d ≡ delimiters i → frameOf d i ≡ Broken → 7 ≡ refusal i date time control
+  broken-decides {d} e w = past-three 7 (here _ (sym (broken-refused (delimiters i) i (rw e at w))) (λ z. absurd (omega arith)))
