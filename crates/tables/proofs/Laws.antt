@@ -1,0 +1,167 @@
+-- A guide at a cursor: what stands at row k and what is left from the next row on.
+use Prim.Native.Nat.{ℕ, zero, suc, _+_, _%_, _<_, _≤_, suc-le-suc}
+use mathlib.Core.Path.{_≡_, refl, sym, ap, _∙_}
+use mathlib.Core.Bool.{Bool, true, false, _||_, not}
+use mathlib.Core.List.{List, [], _∷_}
+use native.Mathlib.Nat.{add-zero, mod-eq-of-lt}
+use native.Mathlib.Numerals.{add-one}
+use native.Mathlib.Omega.{arith}
+use borrow.Author.Tests.{ne-eqb, eqb-true, ltb-true, ltb-false}
+use lib.Dec.{eqb, ltb, lit<}
+use lib.ListN.{length, getD, take, drop, drop-of-length-le, List·getD-eq-default}
+use lib.Seq.{drop-cons, getD-drop, getD-take}
+use Rattle.rules.specs.Base.{Bytes, same, null, all, any, member}
+use Rattle.rules.specs.Tables.{isRow, filled, codesIn, rowsIn, notesIn, entriesIn}
+use Rattle.rules.proofs.Logic.{and-left, and-right, all-at}
+use Rattle.tables.specs.Reading.{Guide, isByte, entryAt, rowAt, noteAt, codesAt, indexWhere, nextWhere, idIn, idAt, idBytes, idsAreBytes}
+
+-- 1. A search.
+module _ {A : Type 0} (p : A → Bool) (xs : List A) (d : A) (k : ℕ) where
+  pub next-here : k < length xs → p (getD xs k d) ≡ true → nextWhere p xs k ≡ k
+  unfolding indexWhere
+  next-here h e = rw (drop-cons xs k d h, e, add-zero)
+
+  pub next-later : k < length xs → p (getD xs k d) ≡ false → nextWhere p xs k ≡ nextWhere p xs (k + 1)
+  unfolding indexWhere
+  next-later h e = rw (add-one, drop-cons xs k d h, e) (omega arith)
+
+  pub next-none : length xs ≤ k → nextWhere p xs k ≡ k
+  unfolding indexWhere
+  next-none h = rw (drop-of-length-le xs {i = k} h, add-zero)
+
+-- 2. What is left from row k on.
+-- a row that is something stands before the end
+pub row-within : (what : ℕ) → 0 < what → (rows : Guide) (k : ℕ) → isRow what (getD rows k []) ≡ true → k < length rows
+row-within what w [] zero e = let z : 0 ≡ what = eqb-true 0 what e in omega arith
+row-within what w [] (suc k) e = let z : 0 ≡ what = eqb-true 0 what e in omega arith
+row-within what w (r ∷ rows) zero e = omega arith
+row-within what w (r ∷ rows) (suc k) e = suc-le-suc (row-within what w rows k e)
+
+-- what is one thing is not another
+other : (r : List ℕ) (a b : ℕ) → (a ≡ b → ⊥) → isRow a r ≡ true → isRow b r ≡ false
+other r a b n e = ne-eqb (getD r 0 0) b (λ (f : getD r 0 0 ≡ b). n (sym (eqb-true (getD r 0 0) a e) ∙ f))
+
+module _ (rows : Guide) (k : ℕ) where
+  here : k < length rows → drop k rows ≡ getD rows k [] ∷ drop (k + 1) rows
+  here h = rw add-one (drop-cons rows k [] h)
+
+  none : length rows ≤ k → drop k rows ≡ []
+  none h = drop-of-length-le rows {i = k} h
+
+  either : {X : Type 0} → (k < length rows → X) → (length rows ≤ k → X) → X
+  either {X} f g = go (ltb k (length rows)) refl
+    where
+      go : (b : Bool) → ltb k (length rows) ≡ b → X
+      go true e = f (ltb-true _ _ e)
+      go false e = g (ltb-false _ _ e)
+
+  past : length rows ≤ k → drop k rows ≡ drop (k + 1) rows
+  past h = none h ∙ sym (drop-of-length-le rows {i = k + 1} (omega arith))
+
+  -- the entries
+  pub entries-here : isRow 1 (getD rows k []) ≡ true → entriesIn (drop k rows) ≡ entryAt rows k ∷ entriesIn (drop (k + 1) rows)
+  unfolding entriesIn
+  entries-here e = rw (here (row-within 1 (lit< tt) rows k e), e)
+
+  pub entries-skip : isRow 1 (getD rows k []) ≡ false → entriesIn (drop k rows) ≡ entriesIn (drop (k + 1) rows)
+  unfolding entriesIn
+  entries-skip e = either (λ h. rw (here h, e)) (λ h. ap entriesIn (past h))
+
+  pub entries-end : length rows ≤ k → entriesIn (drop k rows) ≡ []
+  unfolding entriesIn
+  entries-end h = ap entriesIn (none h)
+
+  -- the elements of a segment
+  pub rows-here : isRow 2 (getD rows k []) ≡ true → rowsIn (drop k rows) ≡ rowAt rows k ∷ rowsIn (drop (k + 1) rows)
+  unfolding rowsIn
+  rows-here e = rw (here (row-within 2 (lit< tt) rows k e), other (getD rows k []) 2 1 (λ x. omega arith) e, e)
+
+  pub rows-skip : isRow 1 (getD rows k []) ≡ false → isRow 2 (getD rows k []) ≡ false → rowsIn (drop k rows) ≡ rowsIn (drop (k + 1) rows)
+  unfolding rowsIn
+  rows-skip e f = either (λ h. rw (here h, e, f)) (λ h. ap rowsIn (past h))
+
+  pub rows-stop : isRow 1 (getD rows k []) ≡ true → rowsIn (drop k rows) ≡ []
+  unfolding rowsIn
+  rows-stop e = rw (here (row-within 1 (lit< tt) rows k e), e)
+
+  pub rows-end : length rows ≤ k → rowsIn (drop k rows) ≡ []
+  unfolding rowsIn
+  rows-end h = ap rowsIn (none h)
+
+  -- the syntax notes of a segment
+  pub notes-here : isRow 4 (getD rows k []) ≡ true → notesIn (drop k rows) ≡ noteAt rows k ∷ notesIn (drop (k + 1) rows)
+  unfolding notesIn
+  notes-here e = rw (here (row-within 4 (lit< tt) rows k e), other (getD rows k []) 4 1 (λ x. omega arith) e, e)
+
+  pub notes-skip : isRow 1 (getD rows k []) ≡ false → isRow 4 (getD rows k []) ≡ false → notesIn (drop k rows) ≡ notesIn (drop (k + 1) rows)
+  unfolding notesIn
+  notes-skip e f = either (λ h. rw (here h, e, f)) (λ h. ap notesIn (past h))
+
+  pub notes-stop : isRow 1 (getD rows k []) ≡ true → notesIn (drop k rows) ≡ []
+  unfolding notesIn
+  notes-stop e = rw (here (row-within 1 (lit< tt) rows k e), e)
+
+  pub notes-end : length rows ≤ k → notesIn (drop k rows) ≡ []
+  unfolding notesIn
+  notes-end h = ap notesIn (none h)
+
+  -- the code values of an element
+  pub codes-here : isRow 3 (getD rows k []) ≡ true → codesAt rows k ≡ filled (drop 1 (getD rows k [])) ∷ codesAt rows (k + 1)
+  unfolding codesIn
+  codes-here e = rw (here (row-within 3 (lit< tt) rows k e), e)
+
+  pub codes-stop : isRow 3 (getD rows k []) ≡ false → codesAt rows k ≡ []
+  unfolding codesIn
+  codes-stop e = either (λ h. rw (here h, e)) (λ h. ap codesIn (none h))
+
+  -- a value is the code at k as q says, and the rest decides
+  pub listed-step : (value : Bytes) (q : Bool) → isRow 3 (getD rows k []) ≡ true → same value (filled (drop 1 (getD rows k []))) ≡ q
+      → member value (codesAt rows k) ≡ q || member value (codesAt rows (k + 1))
+  unfolding any
+  listed-step value q e f = rw (codes-here e, f)
+
+  pub listed-end : (value : Bytes) → isRow 3 (getD rows k []) ≡ false → member value (codesAt rows k) ≡ false
+  unfolding any
+  listed-end value e = rw (codes-stop e)
+
+  -- past the end an id has no bytes
+  pub id-past : (id : Bytes) → length rows ≤ k → eqb (length id) 0 ≡ same (entryAt rows k .id) id
+  unfolding filled same
+  id-past [] h = rw (List·getD-eq-default rows [] {n = k} h)
+  id-past (b ∷ id) h = rw (List·getD-eq-default rows [] {n = k} h, ne-eqb (suc (length id)) 0 (λ e. omega arith))
+
+  pub codes-any : not (null (codesAt rows k)) ≡ isRow 3 (getD rows k [])
+  codes-any = go (isRow 3 (getD rows k [])) refl
+    where
+      go : (b : Bool) → isRow 3 (getD rows k []) ≡ b → not (null (codesAt rows k)) ≡ b
+      go true e = rw (codes-here e)
+      go false e = rw (codes-stop e)
+
+-- 3. An id by value.
+byte-at : (xs : List ℕ) (i : ℕ) → all isByte xs ≡ true → getD xs i 0 < 256
+unfolding all
+byte-at [] zero e = lit< tt
+byte-at [] (suc i) e = lit< tt
+byte-at (x ∷ xs) zero e = ltb-true x 256 (and-left (isByte x) (all isByte xs) e)
+byte-at (x ∷ xs) (suc i) e = byte-at xs i (and-right (isByte x) (all isByte xs) e)
+
+three : (xs : List ℕ) → filled (getD xs 0 0 ∷ getD xs 1 0 ∷ getD xs 2 0 ∷ []) ≡ filled (take 3 xs)
+unfolding filled
+three [] = refl
+three (a ∷ []) = refl
+three (a ∷ (b ∷ [])) = refl
+three (a ∷ (b ∷ (c ∷ xs))) = refl
+
+low : (r : List ℕ) (i : ℕ) → i < 3 → all isByte (idIn r) ≡ true → getD r (1 + i) 0 % 256 ≡ getD (drop 1 r) i 0
+low r i h e =
+    let s : getD (drop 1 r) i 0 < 256 = rw (getD-take 3 (drop 1 r) i 0 h) at (byte-at (idIn r) i e) in
+    rw (← getD-drop 1 r i 0) (mod-eq-of-lt s)
+
+-- where the numbers of the ids are bytes, the id of a segment by value is the entry's
+pub id-bytes : (rows : Guide) (k : ℕ) → idsAreBytes rows ≡ true → isRow 1 (getD rows k []) ≡ true
+    → idBytes (idAt rows k) ≡ entryAt rows k .id
+unfolding idBytes idAt idsAreBytes
+id-bytes rows k e h =
+    let r = getD rows k [] in
+    let b : all isByte (idIn r) ≡ true = rw h at (all-at _ rows [] k e (row-within 1 (lit< tt) rows k h)) in
+    rw (low r 0 (lit< tt) b, low r 1 (lit< tt) b, low r 2 (lit< tt) b) (three (drop 1 r))

@@ -1,0 +1,60 @@
+-- `tables::is_known` meets its contract.
+use Prim.Native.Nat.{_-_}
+use mathlib.Core.Path.{_≡_, sym, _∙_}
+use mathlib.Core.Bool.{true, false}
+use lib.ListN.{length, drop}
+use Rattle.rules.specs.Base.{member}
+use Rattle.rules.specs.Tables.{idsIn}
+use Rattle.tables.proofs.Numbers.{known-step, known-end}
+use borrow.Author.Needs.{needs}
+use Rattle.tables.proofs.is_known.Statement.{statement}
+use Rattle.tables.proofs.is_known.Tie as tie
+
+abbrev Inv-loop : tie.InvT-loop
+Inv-loop id directory k₀ k = member id (idsIn directory) ≡ member id (idsIn (drop k directory))
+
+abbrev μ-loop : tie.MeasureT-loop
+μ-loop id directory k₀ k = length directory - k
+
+loop-holds : tie.Need-loop-holds Inv-loop μ-loop
+loop-holds c = search needs
+
+mul-is-named : tie.Need-mul-is-named Inv-loop μ-loop
+mul-is-named c = search needs
+
+shared-slice-copy-out-is-named : tie.Need-shared-slice-copy-out-is-named Inv-loop μ-loop
+shared-slice-copy-out-is-named c = search needs
+
+is-named-requires : tie.Need-is-named-requires Inv-loop μ-loop
+is-named-requires c κs = search needs
+
+returns : tie.Need-returns Inv-loop μ-loop
+returns c = sym (c .before .before .before .before .loop .inv ∙ known-step _ _ _ true (c .before .before .before .loop-test .taken) (sym (c .before .is-named .ensures) ∙ c .if1 .taken))
+
+add-k : tie.Need-add-k Inv-loop μ-loop
+add-k c = search needs
+
+loop-less : tie.Need-loop-less Inv-loop μ-loop
+loop-less c = search needs
+
+loop-again : tie.Need-loop-again Inv-loop μ-loop
+loop-again c = c .before .before .before .before .loop .inv ∙ known-step _ _ _ false (c .before .before .before .loop-test .taken) (sym (c .before .is-named .ensures) ∙ c .if1 .left)
+
+returns-2 : tie.Need-returns-2 Inv-loop μ-loop
+returns-2 c = sym (c .before .loop .inv ∙ known-end _ _ _ (c .loop-test .left))
+
+pub is-known-spec : {M : Type 1} → statement M
+is-known-spec =
+    tie.close
+    (tie.spec
+    Inv-loop
+    μ-loop
+    loop-holds
+    mul-is-named
+    shared-slice-copy-out-is-named
+    is-named-requires
+    returns
+    add-k
+    loop-less
+    loop-again
+    returns-2)

@@ -1,0 +1,84 @@
+-- Reading a guide, a table as rows of six numbers, at a cursor: k is the index of a row.
+use Prim.Native.Nat.{ℕ, suc, _+_, _%_, _≤_}
+use mathlib.Core.Path.{_≡_}
+use mathlib.Core.Bool.{Bool, true, _&&_, _||_, not}
+use mathlib.Core.List.{List, [], _∷_}
+use lib.Dec.{eqb, ltb}
+use lib.ListN.{length, getD, take, drop}
+use Rattle.rules.specs.Base.{Bytes, same, all, if_then_else_}
+use Rattle.rules.specs.Tables.{Row, Syntax, Entry, column, isRow, filled, relationOf, codesIn, rowIs, entryIs}
+use Rattle.tables.specs.declared.SegmentId.{SegmentId}
+
+abbrev pub Guide : Type 0
+Guide = List (List ℕ)
+
+abbrev pub isByte : ℕ → Bool
+isByte n = ltb n 256
+
+abbrev pub mostRows : ℕ
+mostRows = 64
+
+-- the entry, the element and the syntax note that row k is, and the code values from there on
+abbrev pub entryAt : Guide → ℕ → Entry
+entryAt rows k = entryIs (getD rows k []) (drop (k + 1) rows)
+
+abbrev pub rowAt : Guide → ℕ → Row
+rowAt rows k = rowIs (getD rows k []) (codesIn (drop (k + 1) rows))
+
+abbrev pub noteAt : Guide → ℕ → Syntax
+noteAt rows k = record { relation = relationOf (column (getD rows k []) 1); places = filled (drop 2 (getD rows k [])) }
+
+abbrev pub codesAt : Guide → ℕ → List Bytes
+codesAt rows k = codesIn (drop k rows)
+
+-- how many come before the first that passes; all where none does
+unfoldable pub indexWhere {ℓ} : {A : Type ℓ} → (A → Bool) → List A → ℕ
+indexWhere p [] = 0
+indexWhere p (x ∷ xs) = let r = indexWhere p xs in if p x then 0 else suc r
+
+-- the index of the first from k on that passes; the length where there is none, and k where that is past the end
+abbrev pub nextWhere {ℓ} : {A : Type ℓ} → (A → Bool) → List A → ℕ → ℕ
+nextWhere p xs k = k + indexWhere p (drop k xs)
+
+-- the three numbers of a segment row's id
+abbrev pub idIn : List ℕ → List ℕ
+idIn r = take 3 (drop 1 r)
+
+abbrev pub isEntryRow : Bytes → List ℕ → Bool
+isEntryRow id r = isRow 1 r && same (filled (idIn r)) id
+
+abbrev pub isMandatoryRow : List ℕ → Bool
+isMandatoryRow r = isRow 1 r && eqb (column r 4) 1
+
+-- the first segment row from k on
+unfoldable pub nextEntry : Guide → ℕ → ℕ
+nextEntry rows k = nextWhere (isRow 1) rows k
+
+-- the first segment row from k on with this id
+unfoldable pub reachFrom : Guide → ℕ → Bytes → ℕ
+reachFrom rows k id = nextWhere (isEntryRow id) rows k
+
+-- the first mandatory segment row from k on and before end
+unfoldable pub nextMandatory : Guide → ℕ → ℕ → ℕ
+nextMandatory rows k end = nextWhere isMandatoryRow (take end rows) k
+
+-- the id of row k as bytes, and the bytes that such an id stands for
+unfoldable pub idAt : Guide → ℕ → SegmentId
+idAt rows k = let r = getD rows k [] in record {
+  first = column r 1 % 256;
+  second = column r 2 % 256;
+  third = column r 3 % 256;
+}
+
+unfoldable pub idBytes : SegmentId → Bytes
+idBytes i = filled (i .first ∷ i .second ∷ i .third ∷ [])
+
+-- the numbers of each segment's id are bytes
+unfoldable pub idsAreBytes : Guide → Bool
+idsAreBytes rows = all (λ r. not (isRow 1 r) || all isByte (idIn r)) rows
+
+-- what readers of a guide may lean on: it begins with a segment, has few rows, and its ids are bytes
+pub record Limits (rows : Guide) : Type 0 where
+  pub begins : isRow 1 (getD rows 0 []) ≡ true
+  pub few : length rows ≤ mostRows
+  pub ids : idsAreBytes rows ≡ true

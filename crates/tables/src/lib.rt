@@ -1,0 +1,312 @@
+// Reading a guide: a table as rows of six numbers, lent. What the numbers mean is said in `rules`.
+ghost use mathlib.Core.Path.{_≡_};
+ghost use mathlib.Core.Bool.{not};
+ghost use mathlib.Core.List.{[]};
+ghost use Prim.Native.Nat.{_%_};
+ghost use lib.ListN.{getD, drop};
+ghost use Rattle.rules.specs.Base.{same, member, null};
+ghost use Rattle.rules.specs.Tables as tables;
+ghost use Rattle.tables.specs.Reading as reading;
+use rules::Kind;
+use rules::Relation;
+
+// What a row is.
+pub const SEGMENT: u16 = 1;
+
+pub const ELEMENT: u16 = 2;
+
+pub const VALUE: u16 = 3;
+
+pub const NOTE: u16 = 4;
+
+// Mandatory and optional.
+pub const M: u16 = 1;
+
+pub const O: u16 = 0;
+
+// The types of elements.
+pub const AN: u16 = 0;
+
+pub const ID: u16 = 1;
+
+pub const N0: u16 = 2;
+
+pub const DT: u16 = 3;
+
+pub const TM: u16 = 4;
+
+// The relations of syntax notes.
+pub const P: u16 = 0;
+
+pub const R: u16 = 1;
+
+pub const E: u16 = 2;
+
+pub const C: u16 = 3;
+
+pub const L: u16 = 4;
+
+// The id of a segment by value: two or three bytes, the third 0 where there are two.
+pub struct SegmentId {
+    pub first: u8,
+    pub second: u8,
+    pub third: u8,
+}
+
+// The number at i, 0 past the end.
+fn number_at(numbers: &[u16], i: usize) -> u16
+    ensures { λ r. ⌜ r ≡ getD (now (numbers .entry)) i 0 ⌝ }
+{
+    if i < numbers.len() {
+        return numbers[i];
+    }
+    0
+}
+
+// The numbers before the first 0 are these bytes.
+fn spells(numbers: &[u16], bytes: &[u8]) -> bool
+    ensures { λ r. ⌜ r ≡ same (tables.filled (now (numbers .entry))) (now (bytes .entry)) ⌝ }
+{
+    let mut i = 0;
+    while i < bytes.len() {
+        let number = number_at(numbers, i);
+        // The numbers end here, even where the byte is a 0 too.
+        if number == 0 {
+            return false;
+        }
+        if number != bytes[i] as u16 {
+            return false;
+        }
+        i += 1;
+    }
+    number_at(numbers, i) == 0
+}
+
+fn is_id(row: [u16; 6], id: &[u8]) -> bool
+    ensures { λ r. ⌜ r ≡ same (tables.filled (reading.idIn row)) (now (id .entry)) ⌝ }
+{
+    spells(&row[1..4], id)
+}
+
+fn is_code(row: [u16; 6], value: &[u8]) -> bool
+    ensures { λ r. ⌜ r ≡ same (now (value .entry)) (tables.filled (drop 1 row)) ⌝ }
+{
+    spells(&row[1..6], value)
+}
+
+fn is_entry_row(row: [u16; 6], id: &[u8]) -> bool
+    ensures { λ r. ⌜ r ≡ reading.isEntryRow (now (id .entry)) row ⌝ }
+{
+    if row[0] != SEGMENT {
+        return false;
+    }
+    is_id(row, id)
+}
+
+fn is_mandatory_row(row: [u16; 6]) -> bool
+    ensures { λ r. ⌜ r ≡ reading.isMandatoryRow row ⌝ }
+{
+    if row[0] != SEGMENT {
+        return false;
+    }
+    row[4] == M
+}
+
+fn column_of(row: [u16; 6], column: usize) -> u16
+    ensures { λ r. ⌜ r ≡ tables.column row column ⌝ }
+{
+    if column < 6 {
+        return row[column];
+    }
+    0
+}
+
+// A number of row k, 0 past the end.
+pub fn number(guide: &[[u16; 6]], k: usize, column: usize) -> u16
+    ensures { λ r. ⌜ r ≡ tables.column (getD (now (guide .entry)) k []) column ⌝ }
+{
+    if k < guide.len() {
+        return column_of(guide[k], column);
+    }
+    0
+}
+
+fn is_row(guide: &[[u16; 6]], what: u16, k: usize) -> bool
+    ensures { λ r. ⌜ r ≡ tables.isRow what (getD (now (guide .entry)) k []) ⌝ }
+{
+    number(guide, k, 0) == what
+}
+
+// Row k is a segment.
+pub fn is_segment(guide: &[[u16; 6]], k: usize) -> bool
+    ensures { λ r. ⌜ r ≡ tables.isRow 1 (getD (now (guide .entry)) k []) ⌝ }
+{
+    is_row(guide, SEGMENT, k)
+}
+
+// Row k is an element of the segment above it.
+pub fn is_element(guide: &[[u16; 6]], k: usize) -> bool
+    ensures { λ r. ⌜ r ≡ tables.isRow 2 (getD (now (guide .entry)) k []) ⌝ }
+{
+    is_row(guide, ELEMENT, k)
+}
+
+// Row k is a code value of the element above it.
+pub fn is_value(guide: &[[u16; 6]], k: usize) -> bool
+    ensures { λ r. ⌜ r ≡ tables.isRow 3 (getD (now (guide .entry)) k []) ⌝ }
+{
+    is_row(guide, VALUE, k)
+}
+
+// Row k is a syntax note of the segment above it.
+pub fn is_note(guide: &[[u16; 6]], k: usize) -> bool
+    ensures { λ r. ⌜ r ≡ tables.isRow 4 (getD (now (guide .entry)) k []) ⌝ }
+{
+    is_row(guide, NOTE, k)
+}
+
+// The type that a number of an element's row stands for.
+pub fn kind_of(n: u16) -> Kind
+    ensures { λ r. ⌜ r ≡ tables.kindOf n ⌝ }
+{
+    match n {
+        ID => Kind::ID,
+        N0 => Kind::N0,
+        DT => Kind::DT,
+        TM => Kind::TM,
+        _ => Kind::AN,
+    }
+}
+
+// The relation that a number of a note's row stands for.
+pub fn relation_of(n: u16) -> Relation
+    ensures { λ r. ⌜ r ≡ tables.relationOf n ⌝ }
+{
+    match n {
+        R => Relation::R,
+        E => Relation::E,
+        C => Relation::C,
+        L => Relation::L,
+        _ => Relation::P,
+    }
+}
+
+// The id of row k is these bytes.
+pub fn is_entry(guide: &[[u16; 6]], k: usize, id: &[u8]) -> bool
+    ensures { λ r. ⌜ r ≡ same (reading.entryAt (now (guide .entry)) k .id) (now (id .entry)) ⌝ }
+{
+    if k < guide.len() {
+        return is_id(guide[k], id);
+    }
+    id.len() == 0
+}
+
+// The first segment from row `from` on.
+pub fn next_entry(guide: &[[u16; 6]], from: usize) -> usize
+    ensures { λ r. ⌜ r ≡ reading.nextEntry (now (guide .entry)) from ⌝ }
+{
+    let mut k = from;
+    while k < guide.len() {
+        if is_segment(guide, k) {
+            return k;
+        }
+        k += 1;
+    }
+    k
+}
+
+// The first segment with this id from row `from` on; the number of rows where there is none, and `from` where that is past the end.
+pub fn reach(guide: &[[u16; 6]], from: usize, id: &[u8]) -> usize
+    ensures { λ r. ⌜ r ≡ reading.reachFrom (now (guide .entry)) from (now (id .entry)) ⌝ }
+{
+    let mut k = from;
+    while k < guide.len() {
+        if is_entry_row(guide[k], id) {
+            return k;
+        }
+        k += 1;
+    }
+    k
+}
+
+fn mandatory_from(guide: &[[u16; 6]], from: usize) -> usize
+    ensures { λ r. ⌜ r ≡ reading.nextWhere reading.isMandatoryRow (now (guide .entry)) from ⌝ }
+{
+    let mut k = from;
+    while k < guide.len() {
+        if is_mandatory_row(guide[k]) {
+            return k;
+        }
+        k += 1;
+    }
+    k
+}
+
+// The first mandatory segment from row `from` on and before row `end`; `end` or the number of rows where there is none.
+pub fn next_mandatory(guide: &[[u16; 6]], from: usize, end: usize) -> usize
+    ensures { λ r. ⌜ r ≡ reading.nextMandatory (now (guide .entry)) from end ⌝ }
+{
+    if end < guide.len() {
+        return mandatory_from(&guide[..end], from);
+    }
+    mandatory_from(guide, from)
+}
+
+// Code values stand from row k on.
+pub fn has_values(guide: &[[u16; 6]], k: usize) -> bool
+    ensures { λ r. ⌜ r ≡ not (null (reading.codesAt (now (guide .entry)) k)) ⌝ }
+{
+    is_value(guide, k)
+}
+
+// The value is one of the code values from row k on.
+pub fn is_listed(guide: &[[u16; 6]], k: usize, value: &[u8]) -> bool
+    ensures { λ r. ⌜ r ≡ member (now (value .entry)) (reading.codesAt (now (guide .entry)) k) ⌝ }
+{
+    let mut i = k;
+    while is_value(guide, i) {
+        if is_code(guide[i], value) {
+            return true;
+        }
+        i += 1;
+    }
+    false
+}
+
+fn low_byte(n: u16) -> u8
+    ensures { λ r. ⌜ r ≡ n % 256 ⌝ }
+{
+    (n % 256) as u8
+}
+
+// The id of row k, by value.
+pub fn id_at(guide: &[[u16; 6]], k: usize) -> SegmentId
+    ensures { λ r. ⌜ r ≡ reading.idAt (now (guide .entry)) k ⌝ }
+{
+    SegmentId {
+        first: low_byte(number(guide, k, 1)),
+        second: low_byte(number(guide, k, 2)),
+        third: low_byte(number(guide, k, 3)),
+    }
+}
+
+fn is_named(row: [u8; 3], id: &[u8]) -> bool
+    ensures { λ r. ⌜ r ≡ same (now (id .entry)) (tables.filled row) ⌝ }
+{
+    let end = text::find(&row, 0, 0);
+    text::same_bytes(id, &row[..end])
+}
+
+// The id is one of the directory.
+pub fn is_known(id: &[u8], directory: &[[u8; 3]]) -> bool
+    ensures { λ r. ⌜ r ≡ member (now (id .entry)) (tables.idsIn (now (directory .entry))) ⌝ }
+{
+    let mut k = 0;
+    while k < directory.len() {
+        if is_named(directory[k], id) {
+            return true;
+        }
+        k += 1;
+    }
+    false
+}
