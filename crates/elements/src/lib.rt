@@ -3,15 +3,18 @@ ghost use mathlib.Core.Path.{_≡_};
 ghost use mathlib.Core.Bool.{_&&_, not};
 ghost use mathlib.Core.List.{[], _∷_};
 ghost use Prim.Native.Nat.{_+_};
-ghost use Rattle.rules.specs.Base.{_⇒_, first, null, member};
-ghost use lib.ListN.{getD};
+ghost use Rattle.rules.specs.Base.{_⇒_, first, null, any, member};
+ghost use lib.ListN.{getD, drop};
+ghost use Rattle.rules.specs.Cutting.{split};
 ghost use Rattle.rules.specs.Elements as rules;
 ghost use Rattle.rules.specs.Tables as tables;
 ghost use Rattle.rules.specs.Numbers as numbers;
-ghost use Rattle.tables.specs.Reading.{rowAt, codesAt};
+ghost use Rattle.tables.specs.Reading.{rowAt, codesAt, entryAt};
 ghost use Rattle.elements.specs.Forms.{formOf};
+ghost use Rattle.elements.specs.Notes.{noteIs, breaks, breaksBy};
 use rules::Delimiters;
 use rules::Kind;
+use rules::Relation;
 
 // The columns of an element's row.
 const MANDATORY: usize = 2;
@@ -130,4 +133,215 @@ pub fn element_code(e: &[u8], d: Delimiters, guide: &[[u16; 6]], k: usize) -> u8
         return 7;
     }
     form.code
+}
+
+// The place at i, 0 past the end.
+fn place_at(places: &[u16], i: usize) -> usize
+    ensures { λ r. ⌜ r ≡ getD (now (places .entry)) i 0 ⌝ }
+{
+    if i < places.len() {
+        return wide(places[i]);
+    }
+    0
+}
+
+fn wide(n: u16) -> usize
+    ensures { λ r. ⌜ r ≡ n ⌝ }
+{
+    n as usize
+}
+
+// n is one of the places.
+fn is_place(n: usize, places: &[u16]) -> bool
+    ensures { λ r. ⌜ r ≡ rules.isPlace n (now (places .entry)) ⌝ }
+{
+    let mut i = 0;
+    while i < places.len() {
+        if n == place_at(places, i) {
+            return true;
+        }
+        i += 1;
+    }
+    false
+}
+
+// One of the places is present.
+fn any_present(s: &[u8], e: u8, places: &[u16]) -> bool
+    ensures { λ r. ⌜ r ≡ any (rules.present (split e (now (s .entry)))) (now (places .entry)) ⌝ }
+{
+    let mut i = 0;
+    while i < places.len() {
+        if segments::is_present(s, e, place_at(places, i)) {
+            return true;
+        }
+        i += 1;
+    }
+    false
+}
+
+// The places after the first present one.
+fn after_present<'a>(s: &[u8], e: u8, places: &'a [u16]) -> &'a [u16]
+    ensures { λ r. ⌜ now r ≡ rules.afterPresent (split e (now (s .entry))) (now (places .entry)) ⌝ }
+{
+    let mut i = 0;
+    while i < places.len() {
+        let place = place_at(places, i);
+        i += 1;
+        if segments::is_present(s, e, place) {
+            return &places[i..];
+        }
+    }
+    &places[i..]
+}
+
+// P: another place is present, and n is absent.
+fn lacks_pair(s: &[u8], e: u8, places: &[u16], n: usize) -> bool
+    ensures { λ r. ⌜ r ≡ rules.lacking (split e (now (s .entry))) Relation.P (now (places .entry)) n ⌝ }
+{
+    if !is_place(n, places) {
+        return false;
+    }
+    if segments::is_present(s, e, n) {
+        return false;
+    }
+    any_present(s, e, places)
+}
+
+// R: none is present, and n is the first.
+fn lacks_one(s: &[u8], e: u8, places: &[u16], n: usize) -> bool
+    ensures { λ r. ⌜ r ≡ rules.lacking (split e (now (s .entry))) Relation.R (now (places .entry)) n ⌝ }
+{
+    if places.len() == 0 {
+        return false;
+    }
+    if n != place_at(places, 0) {
+        return false;
+    }
+    !any_present(s, e, places)
+}
+
+// E: n is present after another.
+fn is_second(s: &[u8], e: u8, places: &[u16], n: usize) -> bool
+    ensures { λ r. ⌜ r ≡ rules.excluded (split e (now (s .entry))) Relation.E (now (places .entry)) n ⌝ }
+{
+    if !segments::is_present(s, e, n) {
+        return false;
+    }
+    is_place(n, after_present(s, e, places))
+}
+
+// C: the first is present, and n of the others is absent.
+fn lacks_other(s: &[u8], e: u8, places: &[u16], n: usize) -> bool
+    ensures { λ r. ⌜ r ≡ rules.lacking (split e (now (s .entry))) Relation.C (now (places .entry)) n ⌝ }
+{
+    if places.len() == 0 {
+        return false;
+    }
+    if !is_place(n, &places[1..]) {
+        return false;
+    }
+    if segments::is_present(s, e, n) {
+        return false;
+    }
+    segments::is_present(s, e, place_at(places, 0))
+}
+
+// L: the first is present and no other, and n is the second.
+fn lacks_any_other(s: &[u8], e: u8, places: &[u16], n: usize) -> bool
+    ensures { λ r. ⌜ r ≡ rules.lacking (split e (now (s .entry))) Relation.L (now (places .entry)) n ⌝ }
+{
+    if places.len() < 2 {
+        return false;
+    }
+    if n != place_at(places, 1) {
+        return false;
+    }
+    if any_present(s, e, &places[1..]) {
+        return false;
+    }
+    segments::is_present(s, e, place_at(places, 0))
+}
+
+// The relation between the places is broken at place n: an element lacks there, or one is shut out.
+fn is_broken(relation: Relation, s: &[u8], e: u8, places: &[u16], n: usize) -> bool
+    ensures { λ r. ⌜ r ≡ breaksBy (split e (now (s .entry))) n relation (now (places .entry)) ⌝ }
+{
+    match relation {
+        Relation::P => lacks_pair(s, e, places, n),
+        Relation::R => lacks_one(s, e, places, n),
+        Relation::E => is_second(s, e, places, n),
+        Relation::C => lacks_other(s, e, places, n),
+        Relation::L => lacks_any_other(s, e, places, n),
+    }
+}
+
+// The numbers before the first 0.
+fn filled(numbers: &[u16]) -> &[u16]
+    ensures { λ r. ⌜ now r ≡ tables.filled (now (numbers .entry)) ⌝ }
+{
+    let mut i = 0;
+    while i < numbers.len() {
+        if numbers[i] == 0 {
+            return &numbers[..i];
+        }
+        i += 1;
+    }
+    numbers
+}
+
+// The row is a note that is broken at place n.
+fn breaks_note(s: &[u8], e: u8, row: [u16; 6], n: usize) -> bool
+    ensures { λ r. ⌜ r ≡ (tables.isRow 4 row && breaks (split e (now (s .entry))) n (noteIs row)) ⌝ }
+{
+    if row[0] != tables::NOTE {
+        return false;
+    }
+    is_broken(tables::relation_of(row[1]), s, e, filled(&row[2..6]), n)
+}
+
+// A note from row `from` on is broken at place n.
+fn breaks_notes(s: &[u8], e: u8, guide: &[[u16; 6]], from: usize, n: usize) -> bool
+    ensures { λ r. ⌜ r ≡ any (breaks (split e (now (s .entry))) n) (tables.notesIn (drop from (now (guide .entry)))) ⌝ }
+{
+    let mut k = from;
+    while k < guide.len() {
+        if tables::is_segment(guide, k) {
+            return false;
+        }
+        if breaks_note(s, e, guide[k], n) {
+            return true;
+        }
+        k += 1;
+    }
+    false
+}
+
+// The row after an entry's own.
+fn below(guide: &[[u16; 6]], entry: usize) -> usize
+    ensures { λ r. ⌜ drop r (now (guide .entry)) ≡ drop (entry + 1) (now (guide .entry)) ⌝ }
+{
+    if entry < guide.len() {
+        return entry + 1;
+    }
+    entry
+}
+
+// A note of the entry asks for an element at place n, which is absent (code 2).
+pub fn lacks(s: &[u8], d: Delimiters, guide: &[[u16; 6]], entry: usize, n: usize) -> bool
+    ensures { λ r. ⌜ r ≡ rules.lacks (entryAt (now (guide .entry)) entry .notes) (split (d .element) (now (s .entry))) n ⌝ }
+{
+    if segments::is_present(s, d.element, n) {
+        return false;
+    }
+    breaks_notes(s, d.element, guide, below(guide, entry), n)
+}
+
+// A note of the entry shuts out the element at place n, which is present (code 10).
+pub fn shuts_out(s: &[u8], d: Delimiters, guide: &[[u16; 6]], entry: usize, n: usize) -> bool
+    ensures { λ r. ⌜ r ≡ rules.shutsOut (entryAt (now (guide .entry)) entry .notes) (split (d .element) (now (s .entry))) n ⌝ }
+{
+    if !segments::is_present(s, d.element, n) {
+        return false;
+    }
+    breaks_notes(s, d.element, guide, below(guide, entry), n)
 }
