@@ -2,16 +2,17 @@
 ghost use mathlib.Core.Path.{_≡_};
 ghost use mathlib.Core.Bool.{_&&_, not};
 ghost use mathlib.Core.List.{[], _∷_};
-ghost use Prim.Native.Nat.{_+_};
-ghost use Rattle.rules.specs.Base.{_⇒_, first, null, any, member};
-ghost use lib.ListN.{getD, drop};
-ghost use Rattle.rules.specs.Cutting.{split};
+ghost use Prim.Native.Nat.{_+_, _-_, _≤_};
+ghost use Rattle.rules.specs.Base.{_⇒_, first, null, any, between, member, if_then_else_};
+ghost use lib.ListN.{length, getD, take, drop};
+ghost use Rattle.rules.specs.Cutting.{field, split};
 ghost use Rattle.rules.specs.Elements as rules;
 ghost use Rattle.rules.specs.Tables as tables;
 ghost use Rattle.rules.specs.Numbers as numbers;
 ghost use Rattle.tables.specs.Reading.{rowAt, codesAt, entryAt};
 ghost use Rattle.elements.specs.Forms.{formOf};
 ghost use Rattle.elements.specs.Notes.{noteIs, breaks, breaksBy};
+ghost use Rattle.elements.specs.Places.{nextEnd, stageCode};
 use rules::Delimiters;
 use rules::Kind;
 use rules::Relation;
@@ -344,4 +345,118 @@ pub fn shuts_out(s: &[u8], d: Delimiters, guide: &[[u16; 6]], entry: usize, n: u
         return false;
     }
     breaks_notes(s, d.element, guide, below(guide, entry), n)
+}
+
+fn own_code(s: &[u8], d: Delimiters, guide: &[[u16; 6]], k: usize, n: usize) -> u8
+    ensures { λ r. ⌜ r ≡ rules.elementCode d (rowAt (now (guide .entry)) k) (field (split (d .element) (now (s .entry))) n) ⌝ }
+{
+    element_code(segments::field(s, d.element, n), d, guide, k)
+}
+
+// The code of a value that is there.
+fn filled_code(own: u8) -> u8
+    ensures { λ r. ⌜ r ≡ if between 4 9 own then own else 0 ⌝ }
+{
+    if own < 4 {
+        return 0;
+    }
+    if 9 < own {
+        return 0;
+    }
+    own
+}
+
+fn given(applies: bool, code: u8) -> u8
+    ensures { λ r. ⌜ r ≡ if applies then code else 0 ⌝ }
+{
+    if applies { code } else { 0 }
+}
+
+// The code of place n by the element of row k that comes first, second, third or fourth; 0 for none.
+pub fn code_at(
+    s: &[u8],
+    d: Delimiters,
+    guide: &[[u16; 6]],
+    entry: usize,
+    k: usize,
+    n: usize,
+    stage: usize,
+) -> u8
+    ensures { λ r. ⌜ r ≡ stageCode d (entryAt (now (guide .entry)) entry .notes) (split (d .element) (now (s .entry))) (rowAt (now (guide .entry)) k) n stage ⌝ }
+{
+    match stage {
+        0 => given(own_code(s, d, guide, k, n) == 1, 1),
+        1 => given(lacks(s, d, guide, entry, n), 2),
+        2 => filled_code(own_code(s, d, guide, k, n)),
+        _ => given(shuts_out(s, d, guide, entry, n), 10),
+    }
+}
+
+// The first note or segment from row `from` on: no note stands before it.
+fn first_note(guide: &[[u16; 6]], from: usize) -> usize
+    ensures { λ r. ⌜ tables.notesIn (drop r (now (guide .entry))) ≡ tables.notesIn (drop from (now (guide .entry))) ⌝ }
+{
+    let mut k = from;
+    while k < guide.len() {
+        if tables::is_note(guide, k) {
+            return k;
+        }
+        if tables::is_segment(guide, k) {
+            return k;
+        }
+        k += 1;
+    }
+    k
+}
+
+// Where the field ends that follows the one which ends at `end`; `end` itself where none follows.
+fn next_end(s: &[u8], e: u8, end: usize) -> usize
+    ensures { λ r. ⌜ r ≡ nextEnd e (now (s .entry)) end ⌝ }
+{
+    if end < s.len() {
+        return text::find(s, end + 1, e);
+    }
+    end
+}
+
+// The field between the end of the one before it and its own.
+fn field_between(s: &[u8], end: usize, next: usize) -> &[u8]
+    requires { ⌜ next ≤ length (now s) ⌝ }
+    ensures { λ r. ⌜ now r ≡ take (next - (end + 1)) (drop (end + 1) (now (s .entry))) ⌝ }
+{
+    if end < next {
+        let start = end + 1;
+        return &s[start..next];
+    }
+    &s[0..0]
+}
+
+// The segment has no finding by its entry.
+pub fn is_clean(s: &[u8], d: Delimiters, guide: &[[u16; 6]], entry: usize) -> bool
+    ensures { λ r. ⌜ r ≡ null (rules.findings d (entryAt (now (guide .entry)) entry) (split (d .element) (now (s .entry)))) ⌝ }
+{
+    let mut k = below(guide, entry);
+    let notes = first_note(guide, k);
+    let mut n: usize = 1;
+    let mut end = text::find(s, 0, d.element);
+    while k < guide.len() {
+        if tables::is_segment(guide, k) {
+            return s.len() <= end;
+        }
+        if !tables::is_element(guide, k) {
+            k += 1;
+            continue;
+        }
+        let next = next_end(s, d.element, end);
+        if element_code(field_between(s, end, next), d, guide, k) != 0 {
+            return false;
+        }
+        if breaks_notes(s, d.element, guide, notes, n) {
+            return false;
+        }
+        end = next;
+        n += 1;
+        k += 1;
+    }
+    s.len() <= end
 }
