@@ -1,14 +1,14 @@
 // Notes on elements: the code of a value by its row, the syntax notes, and whether a segment has any finding.
 ghost use mathlib.Core.Path.{_≡_};
-ghost use mathlib.Core.Bool.{_&&_, not};
+ghost use mathlib.Core.Bool.{true, _&&_, not};
 ghost use mathlib.Core.List.{[], _∷_};
 ghost use Prim.Native.Nat.{_+_, _-_, _≤_};
-ghost use Rattle.rules.specs.Base.{_⇒_, first, null, any, between, member, if_then_else_};
 ghost use lib.ListN.{length, getD, take, drop};
+ghost use Rattle.rules.specs.Base.{_⇒_, first, null, any, between, member, if_then_else_};
 ghost use Rattle.rules.specs.Cutting.{field, split};
 ghost use Rattle.rules.specs.Elements as rules;
-ghost use Rattle.rules.specs.Tables as tables;
 ghost use Rattle.rules.specs.Numbers as numbers;
+ghost use Rattle.rules.specs.Tables as tables;
 ghost use Rattle.tables.specs.Reading.{rowAt, codesAt, entryAt};
 ghost use Rattle.elements.specs.Forms.{formOf};
 ghost use Rattle.elements.specs.Notes.{noteIs, breaks, breaksBy};
@@ -33,6 +33,31 @@ struct Form {
     code: u8,
 }
 
+impl Form {
+    // Any valid bytes, by a rule that gives this code.
+    fn of(e: &[u8], code: u8) -> Self
+        ensures { λ r. ⌜ r ≡ record { spelled = true; size = length (now (e .entry)); code = code } ⌝ }
+    {
+        Self {
+            spelled: true,
+            size: e.len(),
+            code,
+        }
+    }
+
+    // Digits after an optional minus, which does not count.
+    fn of_number(e: &[u8]) -> Self
+        ensures { λ r. ⌜ r ≡ formOf Kind.N0 (now (e .entry)) ⌝ }
+    {
+        let digits = text::unsigned(e);
+        Self {
+            spelled: text::all_digits(digits),
+            size: digits.len(),
+            code: 0,
+        }
+    }
+}
+
 fn date_code(e: &[u8]) -> u8
     ensures { λ r. ⌜ r ≡ first ((not (numbers.isDate (now (e .entry))) ⇒ 8) ∷ []) ⌝ }
 {
@@ -50,34 +75,11 @@ fn form_of(e: &[u8], guide: &[[u16; 6]], k: usize) -> Form
 {
     let kind = tables::kind_of(tables::number(guide, k, KIND));
     match kind {
-        Kind::AN => Form {
-            spelled: true,
-            size: e.len(),
-            code: 0,
-        },
-        Kind::ID => Form {
-            spelled: true,
-            size: e.len(),
-            code: 0,
-        },
-        Kind::N0 => {
-            let digits = text::unsigned(e);
-            Form {
-                spelled: text::all_digits(digits),
-                size: digits.len(),
-                code: 0,
-            }
-        }
-        Kind::DT => Form {
-            spelled: true,
-            size: e.len(),
-            code: date_code(e),
-        },
-        Kind::TM => Form {
-            spelled: true,
-            size: e.len(),
-            code: time_code(e),
-        },
+        Kind::AN => Form::of(e, 0),
+        Kind::ID => Form::of(e, 0),
+        Kind::N0 => Form::of_number(e),
+        Kind::DT => Form::of(e, date_code(e)),
+        Kind::TM => Form::of(e, time_code(e)),
     }
 }
 
@@ -103,11 +105,17 @@ fn empty_code(guide: &[[u16; 6]], k: usize) -> u8
     0
 }
 
+fn wide(n: u16) -> usize
+    ensures { λ r. ⌜ r ≡ n ⌝ }
+{
+    n as usize
+}
+
 // A length that row k asks for.
 fn limit(guide: &[[u16; 6]], k: usize, column: usize) -> usize
     ensures { λ r. ⌜ r ≡ tables.column (getD (now (guide .entry)) k []) column ⌝ }
 {
-    tables::number(guide, k, column) as usize
+    wide(tables::number(guide, k, column))
 }
 
 // The code of an element's value by row k, 0 for none.
@@ -144,12 +152,6 @@ fn place_at(places: &[u16], i: usize) -> usize
         return wide(places[i]);
     }
     0
-}
-
-fn wide(n: u16) -> usize
-    ensures { λ r. ⌜ r ≡ n ⌝ }
-{
-    n as usize
 }
 
 // n is one of the places.
@@ -317,7 +319,7 @@ fn breaks_notes(s: &[u8], e: u8, guide: &[[u16; 6]], from: usize, n: usize) -> b
     false
 }
 
-// The row after an entry's own.
+// The row after an entry's own; past the end there is none, whatever the number.
 fn below(guide: &[[u16; 6]], entry: usize) -> usize
     ensures { λ r. ⌜ drop r (now (guide .entry)) ≡ drop (entry + 1) (now (guide .entry)) ⌝ }
 {
@@ -437,6 +439,7 @@ pub fn is_clean(s: &[u8], d: Delimiters, guide: &[[u16; 6]], entry: usize) -> bo
 {
     let mut k = below(guide, entry);
     let notes = first_note(guide, k);
+    // Place n comes next, after the field that ends at `end`.
     let mut n: usize = 1;
     let mut end = text::find(s, 0, d.element);
     while k < guide.len() {
