@@ -1,0 +1,76 @@
+-- `elements::breaks_notes` meets its contract.
+use mathlib.Core.Path.{_≡_, sym, _∙_}
+use mathlib.Core.Bool.{true, false}
+use Prim.Native.Nat.{_-_}
+use lib.ListN.{length, drop}
+use Rattle.rules.specs.Base.{any}
+use Rattle.rules.specs.Cutting.{split}
+use Rattle.rules.specs.Tables.{notesIn}
+use Rattle.elements.specs.Notes.{breaks}
+use Rattle.elements.proofs.Notes.{notes-step, notes-over, notes-past}
+use borrow.Author.Needs.{needs}
+use Rattle.elements.proofs.breaks_notes.Statement.{statement}
+use Rattle.elements.proofs.breaks_notes.Tie as tie
+
+abbrev Inv-loop : tie.InvT-loop
+Inv-loop s e guide from n k₀ k = any (breaks (split e s) n) (notesIn (drop from guide)) ≡ any (breaks (split e s) n) (notesIn (drop k guide))
+
+abbrev μ-loop : tie.MeasureT-loop
+μ-loop s e guide from n k₀ k = length guide - k
+
+loop-holds : tie.Need-loop-holds Inv-loop μ-loop
+loop-holds c = search needs
+
+is-segment-requires : tie.Need-is-segment-requires Inv-loop μ-loop
+is-segment-requires c κs = search needs
+
+returns : tie.Need-returns Inv-loop μ-loop
+returns c =
+    let a = c .before .before .before .before .before .args in
+    sym (c .before .before .before .loop .inv ∙ notes-over _ (a .guide .now) (c .before .before .before .loop .k) (sym (c .before .is-segment .ensures) ∙ c .if1 .taken))
+
+mul-breaks-note : tie.Need-mul-breaks-note Inv-loop μ-loop
+mul-breaks-note c = search needs
+
+shared-slice-copy-out-breaks-note : tie.Need-shared-slice-copy-out-breaks-note Inv-loop μ-loop
+shared-slice-copy-out-breaks-note c = search needs
+
+breaks-note-requires : tie.Need-breaks-note-requires Inv-loop μ-loop
+breaks-note-requires c κs = search needs
+
+returns-2 : tie.Need-returns-2 Inv-loop μ-loop
+returns-2 c =
+    let a = c .before .before .before .before .before .before .before .before .args in
+    sym (c .before .before .before .before .before .before .loop .inv ∙ notes-step _ (a .guide .now) (c .before .before .before .before .before .before .loop .k) true (sym (c .before .before .before .before .is-segment .ensures) ∙ c .before .before .before .if1 .left) (sym (c .if2 .taken) ∙ c .before .breaks-note .ensures))
+
+add-k : tie.Need-add-k Inv-loop μ-loop
+add-k c = search needs
+
+loop-less : tie.Need-loop-less Inv-loop μ-loop
+loop-less c = search needs
+
+loop-again : tie.Need-loop-again Inv-loop μ-loop
+loop-again c =
+    let a = c .before .before .before .before .before .before .before .before .args in
+    c .before .before .before .before .before .before .loop .inv ∙ notes-step _ (a .guide .now) (c .before .before .before .before .before .before .loop .k) false (sym (c .before .before .before .before .is-segment .ensures) ∙ c .before .before .before .if1 .left) (sym (c .if2 .left) ∙ c .before .breaks-note .ensures)
+
+returns-3 : tie.Need-returns-3 Inv-loop μ-loop
+returns-3 c = sym (c .before .loop .inv ∙ notes-past _ _ _ (c .loop-test .left))
+
+pub breaks-notes-spec : {M : Type 1} → statement M
+breaks-notes-spec =
+    tie.close
+    (tie.spec
+    Inv-loop
+    μ-loop
+    loop-holds
+    is-segment-requires
+    returns
+    mul-breaks-note
+    shared-slice-copy-out-breaks-note
+    breaks-note-requires
+    returns-2
+    add-k
+    loop-less
+    loop-again
+    returns-3)

@@ -1,0 +1,20 @@
+-- `elements::time_code` meets its contract.
+use mathlib.Core.Path.{sym, _∙_}
+use Rattle.rules.specs.Base.{first}
+use borrow.Author.Needs.{needs}
+use Rattle.elements.proofs.time_code.Statement.{statement}
+use Rattle.elements.proofs.time_code.Tie as tie
+
+is-time-requires : tie.Need-is-time-requires
+is-time-requires c κs = search needs
+
+returns : tie.Need-returns
+unfolding first
+returns c = rw (sym (c .before .is-time .ensures) ∙ c .if1 .taken)
+
+returns-2 : tie.Need-returns-2
+unfolding first
+returns-2 c = rw (sym (c .before .is-time .ensures) ∙ c .if1 .left)
+
+pub time-code-spec : {M : Type 1} → statement M
+time-code-spec = tie.close (tie.spec is-time-requires returns returns-2)

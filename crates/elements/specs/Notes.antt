@@ -1,0 +1,19 @@
+-- Syntax notes: whether one is broken at a place, by an element that it asks for or by one that it shuts out.
+use Prim.Native.Nat.{ℕ}
+use mathlib.Core.Bool.{Bool, _||_}
+use mathlib.Core.List.{List}
+use lib.ListN.{drop}
+use Rattle.rules.specs.Cutting.{Segment}
+use Rattle.rules.specs.Elements.{lacking, excluded}
+use Rattle.rules.specs.Tables.{Syntax, column, filled, relationOf}
+use Rattle.rules.specs.declared.Relation.{Relation}
+
+-- the note that a row of numbers is
+abbrev pub noteIs : List ℕ → Syntax
+noteIs r = record { relation = relationOf (column r 1); places = filled (drop 2 r) }
+
+abbrev pub breaksBy : Segment → ℕ → Relation → List ℕ → Bool
+breaksBy s n relation places = lacking s relation places n || excluded s relation places n
+
+abbrev pub breaks : Segment → ℕ → Syntax → Bool
+breaks s n c = breaksBy s n (c .relation) (c .places)
