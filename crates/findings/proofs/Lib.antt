@@ -1,0 +1,4 @@
+pub mod Search
+pub mod Stepped
+pub mod Linked
+pub mod Told

@@ -1,0 +1,109 @@
+-- The search for a row at a cursor, and the entries that are missing among rows.
+use mathlib.Core.Path.{_≡_, refl}
+use mathlib.Core.Bool.{Bool, true, false, _&&_, true≢false}
+use mathlib.Core.List.{List, [], _∷_}
+use Prim.Native.Nat.{ℕ, zero, suc, _+_, _-_, _<_, _≤_, min}
+use native.Mathlib.Nat.{le-of-suc-le-suc, not-suc-le-zero}
+use native.Mathlib.Omega.{arith}
+use borrow.Author.Tests.{lt-ltb, ltb-true, ltb-false}
+use lib.Dec.{ltb}
+use lib.ListN.{length, getD, drop, length-drop, length-take}
+use lib.Seq.{slice, drop-drop, getD-drop, getD-take}
+use Rattle.rules.specs.Base.{if_then_else_}
+use Rattle.rules.proofs.Logic.{and-left, and-right}
+use Rattle.tables.specs.Reading.{Guide, indexWhere, nextWhere, nextMandatory, isMandatoryRow, idAt, idBytes}
+use Rattle.findings.specs.Events.{Event, Line}
+use Rattle.findings.specs.Left.{Slots, missingThen}
+
+-- 1. Searching a list.
+module _ {A : Type 0} (p : A → Bool) where
+  -- past what does not pass, the search ends where it ended before
+  index-later : (xs : List A) (j : ℕ) → j < indexWhere p xs → indexWhere p xs ≡ suc j + indexWhere p (drop (suc j) xs)
+  unfolding indexWhere
+  index-later [] j h = absurd (not-suc-le-zero h)
+  index-later (x ∷ xs) j h = go (p x) j h (index-later xs)
+    where
+      go : (b : Bool) (j : ℕ) → j < (if b then 0 else suc (indexWhere p xs))
+          → ((i : ℕ) → i < indexWhere p xs → indexWhere p xs ≡ suc i + indexWhere p (drop (suc i) xs))
+          → (if b then 0 else suc (indexWhere p xs)) ≡ suc j + indexWhere p (drop j xs)
+      go true j k ih = absurd (not-suc-le-zero k)
+      go false zero k ih = omega arith
+      go false (suc j) k ih = omega (arith, ih j (le-of-suc-le-suc k))
+
+  pub next-later : (xs : List A) (k m : ℕ) → k ≤ m → m < nextWhere p xs k → nextWhere p xs (m + 1) ≡ nextWhere p xs k
+  next-later xs k m h l =
+      let q : k + suc (m - k) ≡ m + 1 = omega arith in
+      let r = index-later (drop k xs) (m - k) (omega arith) in
+      let u = rw (drop-drop, q) at r in
+      omega arith
+
+-- 2. The mandatory rows of a list, one by one.
+module _ (n : ℕ) (rest : Slots) where
+  -- what is told of a row that is missing
+  abbrev absentSlot : List ℕ → List Event
+  absentSlot r = Line (idBytes (idAt (r ∷ []) 0)) n (3 ∷ []) ∷ []
+
+  miss-end : (xs : Guide) → length xs ≤ indexWhere isMandatoryRow xs → missingThen n xs rest ≡ rest
+  unfolding missingThen indexWhere
+  miss-end [] h = refl
+  miss-end (x ∷ xs) h = go (isMandatoryRow x) h (miss-end xs)
+    where
+      go : (b : Bool) → suc (length xs) ≤ (if b then 0 else suc (indexWhere isMandatoryRow xs))
+          → (length xs ≤ indexWhere isMandatoryRow xs → missingThen n xs rest ≡ rest)
+          → (if b then absentSlot x ∷ missingThen n xs rest else missingThen n xs rest) ≡ rest
+      go true k ih = absurd (not-suc-le-zero k)
+      go false k ih = ih (le-of-suc-le-suc k)
+
+  miss-step : (xs : Guide) (i : ℕ) → i ≡ indexWhere isMandatoryRow xs → i < length xs
+      → missingThen n xs rest ≡ absentSlot (getD xs i []) ∷ missingThen n (drop (suc i) xs) rest
+  unfolding missingThen indexWhere
+  miss-step [] i e h = absurd (not-suc-le-zero h)
+  miss-step (x ∷ xs) i e h = go (isMandatoryRow x) i e h (miss-step xs)
+    where
+      go : (b : Bool) (i : ℕ) → i ≡ (if b then 0 else suc (indexWhere isMandatoryRow xs)) → i < suc (length xs)
+          → ((j : ℕ) → j ≡ indexWhere isMandatoryRow xs → j < length xs
+          → missingThen n xs rest ≡ absentSlot (getD xs j []) ∷ missingThen n (drop (suc j) xs) rest)
+          → (if b then absentSlot x ∷ missingThen n xs rest else missingThen n xs rest)
+          ≡ absentSlot (getD (x ∷ xs) i []) ∷ missingThen n (drop i xs) rest
+      go true zero q k ih = refl
+      go true (suc i) q k ih = absurd (omega arith)
+      go false zero q k ih = absurd (omega arith)
+      go false (suc i) q k ih = ih i (omega arith) (le-of-suc-le-suc k)
+
+  -- the same from row k up to row e
+  module _ (rows : Guide) (k e : ℕ) where
+    -- the next one and its place among them
+    abbrev m : ℕ
+    m = nextMandatory rows k e
+
+    abbrev i : ℕ
+    i = indexWhere isMandatoryRow (slice k e rows)
+
+    at : m ≡ k + i
+    unfolding nextMandatory
+    at = refl
+
+    size : length (slice k e rows) ≡ min e (length rows) - k
+    size = rw (length-drop, length-take)
+
+    pub miss-none : ltb m e && ltb m (length rows) ≡ false → missingThen n (slice k e rows) rest ≡ rest
+    miss-none h = go (ltb i (length (slice k e rows))) refl
+      where
+        go : (b : Bool) → ltb i (length (slice k e rows)) ≡ b → missingThen n (slice k e rows) rest ≡ rest
+        go true l =
+            let j = ltb-true i (length (slice k e rows)) l in
+            let low : m < e = omega (arith, at, size) in
+            let some : m < length rows = omega (arith, at, size) in
+            absurd (true≢false (rw (lt-ltb m e low, lt-ltb m (length rows) some) at h))
+        go false l = miss-end (slice k e rows) (ltb-false i (length (slice k e rows)) l)
+
+    pub miss-next : ltb m e && ltb m (length rows) ≡ true
+        → missingThen n (slice k e rows) rest ≡ (Line (idBytes (idAt rows m)) n (3 ∷ []) ∷ []) ∷ missingThen n (slice (m + 1) e rows) rest
+    unfolding idAt
+    miss-next h =
+        let low = ltb-true m e (and-left (ltb m e) (ltb m (length rows)) h) in
+        let some = ltb-true m (length rows) (and-right (ltb m e) (ltb m (length rows)) h) in
+        let q : k + suc i ≡ m + 1 = omega (arith, at) in
+        let r = miss-step (slice k e rows) i refl (omega (arith, at, size)) in
+        let u = rw (drop-drop, q, getD-drop, ← at) at r in
+        rw getD-take at u
