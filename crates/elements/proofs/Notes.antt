@@ -1,5 +1,5 @@
 -- Syntax notes: the relations test by test, the notes of an entry at a cursor, and which code a broken note gives.
-use mathlib.Core.Path.{_≡_, refl, sym, ap, _∙_}
+use mathlib.Core.Path.{_≡_, refl, _∙_}
 use mathlib.Core.Bool.{Bool, true, false, _&&_, _||_, not}
 use mathlib.Core.List.{List, [], _∷_}
 use Prim.Native.Nat.{ℕ, _+_, _-_, _<_, _≤_}
@@ -9,7 +9,7 @@ use borrow.Author.Tests.{eqb-true}
 use lib.Dec.{eqb}
 use lib.ListN.{length, getD, take, drop, drop-of-length-le, length-drop}
 use lib.Seq.{drop-cons, take-all}
-use Rattle.rules.specs.Base.{any, if_then_else_}
+use Rattle.rules.specs.Base.{any}
 use Rattle.rules.specs.Cutting.{Segment}
 use Rattle.rules.specs.Elements.{present, isPlace, afterPresent, lacking, excluded, lacks, shutsOut}
 use Rattle.rules.specs.Tables.{Syntax, isRow, notesIn}

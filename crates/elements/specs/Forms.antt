@@ -1,5 +1,4 @@
 -- What the type of an element asks of a value of valid bytes.
-use Prim.Native.Nat.{ℕ}
 use mathlib.Core.Bool.{_&&_, _||_, not}
 use mathlib.Core.List.{[], _∷_}
 use Rattle.rules.specs.Base.{Bytes, _⇒_, first, all, isDigit}
