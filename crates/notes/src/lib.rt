@@ -5,9 +5,12 @@ ghost use Rattle.rules.specs.Numbers.{decimal};
 ghost use Rattle.rules.specs.Response.{fieldsOut, segmentOut};
 ghost use Rattle.tables.specs.Reading.{idBytes};
 ghost use Rattle.findings.specs.Events as events;
-ghost use Rattle.findings.specs.Steps.{codesOf};
+ghost use Rattle.findings.specs.Left as rest;
+ghost use Rattle.findings.specs.Steps.{codesOf, start};
+ghost use Rattle.notes.specs.Saying.{Tells};
 ghost use Rattle.writing.specs.Over.{From};
 use findings::Line;
+use findings::Step;
 use rules::Delimiters;
 use tables::SegmentId;
 
@@ -41,4 +44,49 @@ pub fn add_ak3(out: &mut [u8], n: usize, d: Delimiters, l: Line) -> usize
     let n = add_code(out, n, d, l.own != 0, l.own);
     let n = add_code(out, n, d, l.faulty, 8);
     writing::add_byte(out, n, d.terminator)
+}
+
+// What was written of a list of segments: the length of their text, and how many they are.
+pub struct Told {
+    pub length: usize,
+    pub segments: usize,
+}
+
+// The notes of a set, from the start of what is lent: an AK3 for each segment that is told, and an AK4 for each finding.
+pub fn put_notes(
+    out: &mut [u8],
+    set: &[u8],
+    d: Delimiters,
+    directory: &[[u8; 3]],
+    guide: &[[u16; 6]],
+    closed: bool,
+) -> Told
+    ensures { λ r. ⌜ Tells d (map events.written (rest.events (rest.left (now (set .entry)) d (now (directory .entry)) (now (guide .entry)) closed start))) r (now (out .entry)) (now (out .exit)) ⌝ }
+{
+    let mut n = 0;
+    let mut segments = 0;
+    let mut w = findings::start();
+    loop {
+        match findings::next(set, d, directory, guide, closed, w) {
+            Step::Quiet(v) => {
+                w = v;
+            }
+            Step::Segment(line, v) => {
+                n = add_ak3(out, n, d, line);
+                segments = writing::joined(segments, 1);
+                w = v;
+            }
+            Step::Element(finding, v) => {
+                n = blocks::add_ak4(out, n, d, finding);
+                segments = writing::joined(segments, 1);
+                w = v;
+            }
+            Step::Done => {
+                return Told {
+                    length: n,
+                    segments,
+                };
+            }
+        }
+    }
 }

@@ -237,7 +237,7 @@ module _ (d : Delimiters) where
 
   -- the segments before the next set are counted with those of the sets
   sets-short : (gs : Segment) (earlier : List Bytes) (ss : List Segment)
-      → length (out d (blocks (setReports d gs earlier (setsOf ss)))) + perSegment * length (bodyOf ss) ≤ perSet * size ss
+      → length (out d (blocks (setReports d (tableIn gs) earlier (setsOf ss)))) + perSegment * length (bodyOf ss) ≤ perSet * size ss
   unfolding out blocks setReports setsOf bodyOf
   sets-short gs earlier [] = omega arith
   sets-short gs earlier (s ∷ ss) = pick (isST s) (isSE s) (λ es. sets-short gs es ss)
@@ -246,7 +246,7 @@ module _ (d : Delimiters) where
       set = record { header = s; body = bodyOf ss; trailer = trailerOf ss }
 
       bytes : List Bytes → List Set → ℕ
-      bytes es sets = length (out d (blocks (setReports d gs es sets)))
+      bytes es sets = length (out d (blocks (setReports d (tableIn gs) es sets)))
 
       pick : (b c : Bool) → ((es : List Bytes) → bytes es (setsOf ss) + perSegment * length (bodyOf ss) ≤ perSet * size ss)
           → bytes earlier (if b then set ∷ setsOf ss else setsOf ss) + perSegment * length (if b || c then [] else s ∷ bodyOf ss)

@@ -12,6 +12,7 @@ use lib.Seq.{take-at, length-take-le}
 use Rattle.rules.specs.Base.{Bytes, ascii, same, all, null, last, listed, between, first, _⇒_}
 use Rattle.rules.specs.Cutting.{Segment, isNamed, delimiters, isa, pieces, segments}
 use Rattle.rules.specs.Sets.{Set, controlOf, setReport, SetReport}
+use Rattle.rules.specs.Tables.{Table}
 use Rattle.rules.specs.Groups.{Group, groupOf, isGE, sets, tableIn, setReports, groupCodes, groupReport}
 use Rattle.rules.specs.Refusals.{callRules, framed, goodST, headRules, endRules, enveloped, envelopeRules, trailerRules, groupRules, answerRules, setRules, refusalRules, refusal}
 use Rattle.rules.specs.Response.{fieldsOut, segmentOut, out, block, blocks, ak1, ak9, seOut, told, transactionSet, isaOut, gsOut, geOut, ieaOut, respond, response}
@@ -83,17 +84,17 @@ module _ (d : Delimiters) where
   headers-stay (spoiled {s} body f r) = ap (λ (b : Bool). goodST d (s .header) && b) (headers-stay r)
 
   -- a set's block depends on the set, its table and the ST02 of earlier sets only
-  abbrev written : Segment → List Bytes → List Set → List Bytes
-  written gs earlier ss = map (λ r. out d (block r)) (setReports d gs earlier ss)
+  abbrev written : (Set → Option Table) → List Bytes → List Set → List Bytes
+  written table earlier ss = map (λ r. out d (block r)) (setReports d table earlier ss)
 
-  block-stays : (gs : Segment) {ss ts : List Set} → Damaged d ss ts → (earlier : List Bytes) (k : ℕ) (x : Set) → getD ts k x ≡ getD ss k x
-      → getD (written gs earlier ts) k [] ≡ getD (written gs earlier ss) k []
+  block-stays : (table : Set → Option Table) {ss ts : List Set} → Damaged d ss ts → (earlier : List Bytes) (k : ℕ) (x : Set) → getD ts k x ≡ getD ss k x
+      → getD (written table earlier ts) k [] ≡ getD (written table earlier ss) k []
   unfolding setReports
-  block-stays gs done earlier k x u = refl
-  block-stays gs (kept r) earlier zero x u = refl
-  block-stays gs (kept {s} r) earlier (suc k) x u = block-stays gs r (controlOf s ∷ earlier) k x u
-  block-stays gs (spoiled body f r) earlier zero x u = ap (λ (y : Set). out d (block (setReport d (tableIn gs y) earlier y))) u
-  block-stays gs (spoiled {s} body f r) earlier (suc k) x u = block-stays gs r (controlOf s ∷ earlier) k x u
+  block-stays table done earlier k x u = refl
+  block-stays table (kept r) earlier zero x u = refl
+  block-stays table (kept {s} r) earlier (suc k) x u = block-stays table r (controlOf s ∷ earlier) k x u
+  block-stays table (spoiled body f r) earlier zero x u = ap (λ (y : Set). out d (block (setReport d (table y) earlier y))) u
+  block-stays table (spoiled {s} body f r) earlier (suc k) x u = block-stays table r (controlOf s ∷ earlier) k x u
 
 -- 2. What the rules and the reports read of sets between ISA, GS and GE, IEA.
 module _ (is gs iea : Segment) {ss : List Set} {ge : Option Segment} (ws : Sets ss) (o : Optional isGE ge) where
@@ -175,11 +176,11 @@ module _ {i j : Bytes} {before after : List Set} (h : Spoiled i j before after) 
   unfolding groupReport
   same-received = rw (group-after, group-before, sets-flat well-after, sets-flat (h .well), count-stays (delimiters i) (h .damaged))
 
-  blocks-before : blocksIn i ≡ written (delimiters i) (h .gs) [] before
+  blocks-before : blocksIn i ≡ written (delimiters i) (tableIn (h .gs)) [] before
   unfolding blocksIn groupReport
   blocks-before = rw (group-before, sets-flat (h .well))
 
-  blocks-after : blocksIn j ≡ written (delimiters i) (h .gs) [] after
+  blocks-after : blocksIn j ≡ written (delimiters i) (tableIn (h .gs)) [] after
   unfolding blocksIn groupReport
   blocks-after = rw (group-after, same-delimiters, sets-flat well-after)
 
@@ -365,7 +366,7 @@ one-spoiled i lent date time control e after damaged short lent′ fits =
           ∙ ap (λ (l : Bytes). l ++ drop (length (response j date time control)) lent′) (response-parts j date time control)
           ∙ rw (same-opening s date time control, same-delimiters s);
       blocks = blocks-after s;
-      untouched = λ k x u. rw (blocks-after s, blocks-before s) (block-stays (delimiters i) (groupIn i .header) damaged [] k x u);
+      untouched = λ k x u. rw (blocks-after s, blocks-before s) (block-stays (delimiters i) (tableIn (groupIn i .header)) damaged [] k x u);
       received = same-received s;
       codes = same-codes s;
     }

@@ -2,6 +2,7 @@
 use mathlib.Core.Path.{_≡_, refl, sym, _∙_, ap}
 use mathlib.Core.Bool.{Bool, true, false, _&&_, false≢true}
 use mathlib.Core.List.{List, [], _∷_, _++_, map, append-nil, append-assoc}
+use mathlib.Core.Option.{Option}
 use Prim.Native.Nat.{ℕ, zero, suc, _+_, _≤_}
 use native.Mathlib.Omega.{arith}
 use native.Mathlib.Numerals.{add-one}
@@ -12,6 +13,7 @@ use Rattle.rules.specs.Base.{Bytes, ascii, null, same, all, keep, last, 
 use Rattle.rules.specs.Cutting.{Segment, field, delimiters, isa, segments}
 use Rattle.rules.specs.Numbers.{decimal}
 use Rattle.rules.specs.Sets.{Set, controlOf, setReport, SetReport, accepted}
+use Rattle.rules.specs.Tables.{Table}
 use Rattle.rules.specs.Groups.{Group, groupOf, sets, tableIn, setReports, acceptedIn, GroupReport, groupReport}
 use Rattle.rules.specs.Refusals.{callRules, headRules, endRules, envelopeRules, trailerRules, groupRules, answerRules, setRules, refusalRules, refusal}
 use Rattle.rules.specs.Response.{ak5, seOut, told, transactionSet}
@@ -43,10 +45,10 @@ pub without-codes : (r : SetReport) → accepted r ≡ true → r .codes ≡ []
 without-codes r e = no-codes (r .codes) e
 
 -- 3. AK903 is the number of sets, and each has its report; AK904 is the number of accepted ones, or 0 under AK901 R.
-reports-count : (d : Delimiters) (gs : Segment) (earlier : List Bytes) (ss : List Set) → length (setReports d gs earlier ss) ≡ length ss
+pub reports-count : (d : Delimiters) (table : Set → Option Table) (earlier : List Bytes) (ss : List Set) → length (setReports d table earlier ss) ≡ length ss
 unfolding setReports
-reports-count d gs earlier [] = refl
-reports-count d gs earlier (s ∷ ss) = ap suc (reports-count d gs (controlOf s ∷ earlier) ss)
+reports-count d table earlier [] = refl
+reports-count d table earlier (s ∷ ss) = ap suc (reports-count d table (controlOf s ∷ earlier) ss)
 
 module _ (d : Delimiters) (g : Group) where
   pub received-counts : groupReport d g .received ≡ length (sets g)
@@ -55,7 +57,7 @@ module _ (d : Delimiters) (g : Group) where
 
   pub every-reported : length (groupReport d g .sets) ≡ length (sets g)
   unfolding groupReport
-  every-reported = reports-count d (g .header) [] (sets g)
+  every-reported = reports-count d (tableIn (g .header)) [] (sets g)
 
   pub allowed-counts : groupReport d g .allowed ≡ if same (groupReport d g .verdict) (ascii "R") then 0 else acceptedIn (groupReport d g .sets)
   unfolding groupReport

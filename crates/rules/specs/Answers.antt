@@ -52,3 +52,9 @@ outcome a left = record { number = number a; size = size a; buffer = left }
 unfoldable pub Allowed : Bytes → Bytes → ℕ → ℕ → ℕ → Answer → Bytes → Type 0
 Allowed i lent date time control a left =
     (a ≡ answer i (length lent) date time control) × (left ≡ buffer a (response i date time control) lent)
+
+-- the outcome of a call
+unfoldable pub called : Bytes → Bytes → ℕ → ℕ → ℕ → Outcome
+called i lent date time control =
+    let a = answer i (length lent) date time control in
+    outcome a (buffer a (response i date time control) lent)

@@ -9,7 +9,7 @@ use lib.ListN.{length, take, drop, getD}
 use Rattle.rules.specs.Base.{Bytes, all, null, last, listed, ascii}
 use Rattle.rules.specs.Cutting.{Segment, delimiters, isa, segments}
 use Rattle.rules.specs.Sets.{Set, isST, isSE}
-use Rattle.rules.specs.Groups.{Group, groupOf, sets, setReports, GroupReport, groupReport}
+use Rattle.rules.specs.Groups.{Group, groupOf, sets, tableIn, setReports, GroupReport, groupReport}
 use Rattle.rules.specs.Refusals.{isEnvelope}
 use Rattle.rules.specs.Response.{out, block, ak1, ak9, stOut, seOut, told, isaOut, gsOut, geOut, ieaOut, response}
 use Rattle.rules.specs.Answers.{answer, number, buffer}
@@ -104,7 +104,7 @@ pub record Stays (i j lent : Bytes) (after : List Set) (date time control : ℕ)
   pub written : left j lent date time control
       ≡ out (delimiters i) (opening i date time control) ++ joined (blocksIn j) ++ out (delimiters i) (closing j control)
       ++ drop (length (response j date time control)) lent
-  pub blocks : blocksIn j ≡ map (λ r. out (delimiters i) (block r)) (setReports (delimiters i) (groupIn i .header) [] after)
+  pub blocks : blocksIn j ≡ map (λ r. out (delimiters i) (block r)) (setReports (delimiters i) (tableIn (groupIn i .header)) [] after)
   pub untouched : (k : ℕ) (d : Set) → getD after k d ≡ getD (setsIn i) k d → getD (blocksIn j) k [] ≡ getD (blocksIn i) k []
   pub received : reportIn j .received ≡ reportIn i .received
   pub codes : reportIn j .codes ≡ reportIn i .codes

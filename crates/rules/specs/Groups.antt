@@ -46,11 +46,11 @@ edition gs = take 6 (field gs 8)
 unfoldable pub tableIn : Segment → Set → Option Table
 tableIn gs s = if supported gs then setTable (edition gs) (field (s .header) 1) else none
 
--- the reports of the sets of a group; earlier are the ST02 of those before
-unfoldable pub setReports : Delimiters → Segment → List Bytes → List Set → List SetReport
-setReports d gs earlier [] = []
-setReports d gs earlier (s ∷ ss) =
-    setReport d (tableIn gs s) earlier s ∷ setReports d gs (controlOf s ∷ earlier) ss
+-- the reports of sets, each by its table; earlier are the ST02 of those before
+unfoldable pub setReports : Delimiters → (Set → Option Table) → List Bytes → List Set → List SetReport
+setReports d table earlier [] = []
+setReports d table earlier (s ∷ ss) =
+    setReport d (table s) earlier s ∷ setReports d table (controlOf s ∷ earlier) ss
 
 -- the codes of AK9
 unfoldable pub groupCodes : Group → List ℕ
@@ -90,7 +90,7 @@ acceptedIn rs = length (keep accepted rs)
 unfoldable pub groupReport : Delimiters → Group → GroupReport
 groupReport d g =
     let gs = g .header in
-    let rs = setReports d gs [] (sets g) in
+    let rs = setReports d (tableIn gs) [] (sets g) in
     let codes = groupCodes g in
     let v = verdict codes (length rs) (acceptedIn rs) in
     record {
