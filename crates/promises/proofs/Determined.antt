@@ -1,0 +1,486 @@
+-- Every public function is determined: two outcomes that its contract allows for the same arguments coincide. A contract is read off the code
+-- (`Reads.Post`): of the arguments, the result and what is lent at the exit.
+use mathlib.Core.Path.{_≡_, sym, ap, _∙_}
+use mathlib.Core.List.{List}
+use Prim.Native.Nat.{ℕ}
+use lib.ListN.{getD}
+use denote.Ref.{now}
+use Rattle.rules.specs.Base.{Bytes}
+use Rattle.rules.specs.Cutting.{Segment}
+use Rattle.rules.specs.declared.Delimiters.{Delimiters}
+use Rattle.writing.specs.Over.{Wrote, From}
+use Rattle.notes.specs.Saying.{Tells}
+use Rattle.notes.specs.declared.Told.{Told}
+use Rattle.rules.proofs.Delimiters.new.Reads as rules-Delimiters-new
+use Rattle.rules.proofs.Finding.new.Reads as rules-Finding-new
+use Rattle.text.proofs.find.Reads as text-find
+use Rattle.text.proofs.same_bytes.Reads as text-same-bytes
+use Rattle.text.proofs.all_digits.Reads as text-all-digits
+use Rattle.text.proofs.is_digits.Reads as text-is-digits
+use Rattle.text.proofs.value.Reads as text-value
+use Rattle.text.proofs.is_day.Reads as text-is-day
+use Rattle.text.proofs.is_date.Reads as text-is-date
+use Rattle.text.proofs.is_time.Reads as text-is-time
+use Rattle.text.proofs.is_valid.Reads as text-is-valid
+use Rattle.text.proofs.all_valid.Reads as text-all-valid
+use Rattle.text.proofs.is_text.Reads as text-is-text
+use Rattle.text.proofs.is_name.Reads as text-is-name
+use Rattle.text.proofs.unsigned.Reads as text-unsigned
+use Rattle.envelope.proofs.call_refusal.Reads as envelope-call-refusal
+use Rattle.envelope.proofs.head_refusal.Reads as envelope-head-refusal
+use Rattle.envelope.proofs.end_refusal.Reads as envelope-end-refusal
+use Rattle.envelope.proofs.delimiters.Reads as envelope-delimiters
+use Rattle.envelope.proofs.isa_field.Reads as envelope-isa-field
+use Rattle.segments.proofs.field.Reads as segments-field
+use Rattle.segments.proofs.id.Reads as segments-id
+use Rattle.segments.proofs.is_named.Reads as segments-is-named
+use Rattle.segments.proofs.is_present.Reads as segments-is-present
+use Rattle.segments.proofs.field_count.Reads as segments-field-count
+use Rattle.segments.proofs.segment_count.Reads as segments-segment-count
+use Rattle.frame.proofs.frame_of.Reads as frame-frame-of
+use Rattle.headers.proofs.trailer_refusal.Reads as headers-trailer-refusal
+use Rattle.headers.proofs.header_refusal.Reads as headers-header-refusal
+use Rattle.headers.proofs.answer_refusal.Reads as headers-answer-refusal
+use Rattle.sets.proofs.next_set.Reads as sets-next-set
+use Rattle.sets.proofs.part.Reads as sets-part
+use Rattle.sets.proofs.set_refusal.Reads as sets-set-refusal
+use Rattle.sets.proofs.control_at.Reads as sets-control-at
+use Rattle.sets.proofs.is_repeated.Reads as sets-is-repeated
+use Rattle.refusals.proofs.check.Reads as refusals-check
+use Rattle.verdicts.proofs.Codes.none.Reads as verdicts-Codes-none
+use Rattle.verdicts.proofs.Codes.with.Reads as verdicts-Codes-with
+use Rattle.verdicts.proofs.Codes.is_empty.Reads as verdicts-Codes-is-empty
+use Rattle.verdicts.proofs.declared_count.Reads as verdicts-declared-count
+use Rattle.verdicts.proofs.declares.Reads as verdicts-declares
+use Rattle.verdicts.proofs.set_codes.Reads as verdicts-set-codes
+use Rattle.verdicts.proofs.Edition.has_table.Reads as verdicts-Edition-has-table
+use Rattle.verdicts.proofs.edition_of.Reads as verdicts-edition-of
+use Rattle.verdicts.proofs.is_supported.Reads as verdicts-is-supported
+use Rattle.verdicts.proofs.is_load_response.Reads as verdicts-is-load-response
+use Rattle.verdicts.proofs.group_codes.Reads as verdicts-group-codes
+use Rattle.verdicts.proofs.declared_sets.Reads as verdicts-declared-sets
+use Rattle.verdicts.proofs.verdict.Reads as verdicts-verdict
+use Rattle.verdicts.proofs.allowed.Reads as verdicts-allowed
+use Rattle.tables.proofs.number.Reads as tables-number
+use Rattle.tables.proofs.is_segment.Reads as tables-is-segment
+use Rattle.tables.proofs.is_element.Reads as tables-is-element
+use Rattle.tables.proofs.is_value.Reads as tables-is-value
+use Rattle.tables.proofs.is_note.Reads as tables-is-note
+use Rattle.tables.proofs.kind_of.Reads as tables-kind-of
+use Rattle.tables.proofs.relation_of.Reads as tables-relation-of
+use Rattle.tables.proofs.is_entry.Reads as tables-is-entry
+use Rattle.tables.proofs.next_entry.Reads as tables-next-entry
+use Rattle.tables.proofs.reach.Reads as tables-reach
+use Rattle.tables.proofs.next_mandatory.Reads as tables-next-mandatory
+use Rattle.tables.proofs.has_values.Reads as tables-has-values
+use Rattle.tables.proofs.is_listed.Reads as tables-is-listed
+use Rattle.tables.proofs.id_at.Reads as tables-id-at
+use Rattle.tables.proofs.is_known.Reads as tables-is-known
+use Rattle.guides.proofs.directory.Reads as guides-directory
+use Rattle.guides.proofs.guide_006010.Reads as guides-guide-006010
+use Rattle.guides.proofs.guide_004010.Reads as guides-guide-004010
+use Rattle.elements.proofs.element_code.Reads as elements-element-code
+use Rattle.elements.proofs.lacks.Reads as elements-lacks
+use Rattle.elements.proofs.shuts_out.Reads as elements-shuts-out
+use Rattle.elements.proofs.code_at.Reads as elements-code-at
+use Rattle.elements.proofs.is_clean.Reads as elements-is-clean
+use Rattle.findings.proofs.start.Reads as findings-start
+use Rattle.findings.proofs.next.Reads as findings-next
+use Rattle.findings.proofs.is_noted.Reads as findings-is-noted
+use Rattle.writing.proofs.clipped.Reads as writing-clipped
+use Rattle.writing.proofs.joined.Reads as writing-joined
+use Rattle.writing.proofs.put_byte.Reads as writing-put-byte
+use Rattle.writing.proofs.put_bytes.Reads as writing-put-bytes
+use Rattle.writing.proofs.add_byte.Reads as writing-add-byte
+use Rattle.writing.proofs.add_bytes.Reads as writing-add-bytes
+use Rattle.writing.proofs.put_number.Reads as writing-put-number
+use Rattle.writing.proofs.put_padded.Reads as writing-put-padded
+use Rattle.writing.proofs.add_number.Reads as writing-add-number
+use Rattle.writing.proofs.add_padded.Reads as writing-add-padded
+use Rattle.writing.proofs.add_field.Reads as writing-add-field
+use Rattle.writing.proofs.add_single.Reads as writing-add-single
+use Rattle.writing.proofs.add_count.Reads as writing-add-count
+use Rattle.writing.proofs.add_fixed.Reads as writing-add-fixed
+use Rattle.writing.proofs.add_optional.Reads as writing-add-optional
+use Rattle.writing.proofs.add_codes.Reads as writing-add-codes
+use Rattle.writing.proofs.add_pair.Reads as writing-add-pair
+use Rattle.blocks.proofs.add_isa.Reads as blocks-add-isa
+use Rattle.blocks.proofs.add_gs.Reads as blocks-add-gs
+use Rattle.blocks.proofs.add_st.Reads as blocks-add-st
+use Rattle.blocks.proofs.add_ak1.Reads as blocks-add-ak1
+use Rattle.blocks.proofs.add_ak2.Reads as blocks-add-ak2
+use Rattle.blocks.proofs.add_ak4.Reads as blocks-add-ak4
+use Rattle.blocks.proofs.add_ak5.Reads as blocks-add-ak5
+use Rattle.blocks.proofs.add_ak9.Reads as blocks-add-ak9
+use Rattle.blocks.proofs.add_se.Reads as blocks-add-se
+use Rattle.blocks.proofs.add_ge.Reads as blocks-add-ge
+use Rattle.blocks.proofs.add_iea.Reads as blocks-add-iea
+use Rattle.notes.proofs.add_ak3.Reads as notes-add-ak3
+use Rattle.notes.proofs.put_notes.Reads as notes-put-notes
+use Rattle.first_line.proofs.call_of.Reads as first-line-call-of
+use Rattle.first_line.proofs.put_refused.Reads as first-line-put-refused
+
+-- 1. What a caller sees of a result and of what it lent is the same for any two that a contract allows.
+abbrev pub Once {ℓ} : {K : Type ℓ} {A R S W : K → Type 0} → ((κs : K) → A κs → R κs → S κs → Type 0) → ((κs : K) → R κs → S κs → W κs) → Type ℓ
+Once {K = K} {A} {R} {S} post seen =
+    (κs : K) (a : A κs) (r₁ r₂ : R κs) (s₁ s₂ : S κs) → post κs a r₁ s₁ → post κs a r₂ s₂ → seen κs r₁ s₁ ≡ seen κs r₂ s₂
+
+-- a writer's result, and the buffer that it was lent
+abbrev pub written {ℓ} : {R : Type ℓ} → R → Bytes → R × Bytes
+written r o = (r, o)
+
+wrote-once : {t o o₁ o₂ : Bytes} {n m : ℕ} → Wrote t n o o₁ → Wrote t m o o₂ → written n o₁ ≡ written m o₂
+wrote-once p q = rw (p .count, q .count, p .bytes, q .bytes)
+
+from-once : {t o o₁ o₂ : Bytes} {k n m : ℕ} → From k t n o o₁ → From k t m o o₂ → written n o₁ ≡ written m o₂
+from-once p q = rw (p .count, q .count, p .bytes, q .bytes)
+
+told-same : {n m k j : ℕ} {o₁ o₂ : Bytes} → n ≡ m → k ≡ j → o₁ ≡ o₂
+    → _≡_ {A = Told × Bytes} (record { length = n; segments = k }, o₁) (record { length = m; segments = j }, o₂)
+told-same p q e = rw (p, q, e)
+
+tells-once : {d : Delimiters} {ss : List Segment} {r₁ r₂ : Told} {o o₁ o₂ : Bytes} → Tells d ss r₁ o o₁ → Tells d ss r₂ o o₂ → written r₁ o₁ ≡ written r₂ o₂
+tells-once p q =
+    told-same (p .text .count ∙ sym (q .text .count)) (p .number ∙ sym (q .number)) (p .text .bytes ∙ sym (q .text .bytes))
+
+-- 2. The functions, crate by crate.
+-- rules
+rules-Delimiters-new-once : Once rules-Delimiters-new.Post (λ κs r s. r)
+rules-Delimiters-new-once κs a r₁ r₂ s₁ s₂ p q = p ∙ sym q
+
+rules-Finding-new-once : Once rules-Finding-new.Post (λ κs r s. r)
+rules-Finding-new-once κs a r₁ r₂ s₁ s₂ p q = p ∙ sym q
+
+-- text
+text-find-once : Once text-find.Post (λ κs r s. r)
+text-find-once κs a r₁ r₂ s₁ s₂ p q = p ∙ sym q
+
+text-same-bytes-once : Once text-same-bytes.Post (λ κs r s. r)
+text-same-bytes-once κs a r₁ r₂ s₁ s₂ p q = p ∙ sym q
+
+text-all-digits-once : Once text-all-digits.Post (λ κs r s. r)
+text-all-digits-once κs a r₁ r₂ s₁ s₂ p q = p ∙ sym q
+
+text-is-digits-once : Once text-is-digits.Post (λ κs r s. r)
+text-is-digits-once κs a r₁ r₂ s₁ s₂ p q = p ∙ sym q
+
+text-value-once : Once text-value.Post (λ κs r s. r)
+text-value-once κs a r₁ r₂ s₁ s₂ p q = p ∙ sym q
+
+text-is-day-once : Once text-is-day.Post (λ κs r s. r)
+text-is-day-once κs a r₁ r₂ s₁ s₂ p q = p ∙ sym q
+
+text-is-date-once : Once text-is-date.Post (λ κs r s. r)
+text-is-date-once κs a r₁ r₂ s₁ s₂ p q = p ∙ sym q
+
+text-is-time-once : Once text-is-time.Post (λ κs r s. r)
+text-is-time-once κs a r₁ r₂ s₁ s₂ p q = p ∙ sym q
+
+text-is-valid-once : Once text-is-valid.Post (λ κs r s. r)
+text-is-valid-once κs a r₁ r₂ s₁ s₂ p q = p ∙ sym q
+
+text-all-valid-once : Once text-all-valid.Post (λ κs r s. r)
+text-all-valid-once κs a r₁ r₂ s₁ s₂ p q = p ∙ sym q
+
+text-is-text-once : Once text-is-text.Post (λ κs r s. r)
+text-is-text-once κs a r₁ r₂ s₁ s₂ p q = p ∙ sym q
+
+text-is-name-once : Once text-is-name.Post (λ κs r s. r)
+text-is-name-once κs a r₁ r₂ s₁ s₂ p q = p ∙ sym q
+
+text-unsigned-once : Once text-unsigned.Post (λ κs r s. now r)
+text-unsigned-once κs a r₁ r₂ s₁ s₂ p q = p ∙ sym q
+
+-- envelope
+envelope-call-refusal-once : Once envelope-call-refusal.Post (λ κs r s. r)
+envelope-call-refusal-once κs a r₁ r₂ s₁ s₂ p q = p ∙ sym q
+
+envelope-head-refusal-once : Once envelope-head-refusal.Post (λ κs r s. r)
+envelope-head-refusal-once κs a r₁ r₂ s₁ s₂ p q = p ∙ sym q
+
+envelope-end-refusal-once : Once envelope-end-refusal.Post (λ κs r s. r)
+envelope-end-refusal-once κs a r₁ r₂ s₁ s₂ p q = p ∙ sym q
+
+envelope-delimiters-once : Once envelope-delimiters.Post (λ κs r s. r)
+envelope-delimiters-once κs a r₁ r₂ s₁ s₂ p q = p ∙ sym q
+
+envelope-isa-field-once : Once envelope-isa-field.Post (λ κs r s. now r)
+envelope-isa-field-once κs a r₁ r₂ s₁ s₂ p q = p ∙ sym q
+
+-- segments
+segments-field-once : Once segments-field.Post (λ κs r s. now r)
+segments-field-once κs a r₁ r₂ s₁ s₂ p q = p ∙ sym q
+
+segments-id-once : Once segments-id.Post (λ κs r s. now r)
+segments-id-once κs a r₁ r₂ s₁ s₂ p q = p ∙ sym q
+
+segments-is-named-once : Once segments-is-named.Post (λ κs r s. r)
+segments-is-named-once κs a r₁ r₂ s₁ s₂ p q = p ∙ sym q
+
+segments-is-present-once : Once segments-is-present.Post (λ κs r s. r)
+segments-is-present-once κs a r₁ r₂ s₁ s₂ p q = p ∙ sym q
+
+segments-field-count-once : Once segments-field-count.Post (λ κs r s. r)
+segments-field-count-once κs a r₁ r₂ s₁ s₂ p q = p ∙ sym q
+
+segments-segment-count-once : Once segments-segment-count.Post (λ κs r s. r)
+segments-segment-count-once κs a r₁ r₂ s₁ s₂ p q = p ∙ sym q
+
+-- frame
+frame-frame-of-once : Once frame-frame-of.Post (λ κs r s. r)
+frame-frame-of-once κs a r₁ r₂ s₁ s₂ p q = p ∙ sym q
+
+-- headers
+headers-trailer-refusal-once : Once headers-trailer-refusal.Post (λ κs r s. r)
+headers-trailer-refusal-once κs a r₁ r₂ s₁ s₂ p q = p ∙ sym q
+
+headers-header-refusal-once : Once headers-header-refusal.Post (λ κs r s. r)
+headers-header-refusal-once κs a r₁ r₂ s₁ s₂ p q = p ∙ sym q
+
+headers-answer-refusal-once : Once headers-answer-refusal.Post (λ κs r s. r)
+headers-answer-refusal-once κs a r₁ r₂ s₁ s₂ p q = p ∙ sym q
+
+-- sets
+sets-next-set-once : Once sets-next-set.Post (λ κs r s. r)
+sets-next-set-once κs a r₁ r₂ s₁ s₂ p q = p ∙ sym q
+
+sets-part-once : Once sets-part.Post (λ κs r s. now r)
+sets-part-once κs a r₁ r₂ s₁ s₂ p q = p ∙ sym q
+
+sets-set-refusal-once : Once sets-set-refusal.Post (λ κs r s. r)
+sets-set-refusal-once κs a r₁ r₂ s₁ s₂ p q = p ∙ sym q
+
+sets-control-at-once : Once sets-control-at.Post (λ κs r s. now r)
+sets-control-at-once κs a r₁ r₂ s₁ s₂ p q = p ∙ sym q
+
+sets-is-repeated-once : Once sets-is-repeated.Post (λ κs r s. r)
+sets-is-repeated-once κs a r₁ r₂ s₁ s₂ p q = p ∙ sym q
+
+-- refusals
+refusals-check-once : Once refusals-check.Post (λ κs r s. r)
+refusals-check-once κs a r₁ r₂ s₁ s₂ p q = p ∙ sym q
+
+-- verdicts
+verdicts-Codes-none-once : Once verdicts-Codes-none.Post (λ κs r s. r)
+verdicts-Codes-none-once κs a r₁ r₂ s₁ s₂ p q = p ∙ sym q
+
+verdicts-Codes-with-once : Once verdicts-Codes-with.Post (λ κs r s. r)
+verdicts-Codes-with-once κs a r₁ r₂ s₁ s₂ p q = p ∙ sym q
+
+verdicts-Codes-is-empty-once : Once verdicts-Codes-is-empty.Post (λ κs r s. r)
+verdicts-Codes-is-empty-once κs a r₁ r₂ s₁ s₂ p q = p ∙ sym q
+
+verdicts-declared-count-once : Once verdicts-declared-count.Post (λ κs r s. r)
+verdicts-declared-count-once κs a r₁ r₂ s₁ s₂ p q = p ∙ sym q
+
+verdicts-declares-once : Once verdicts-declares.Post (λ κs r s. r)
+verdicts-declares-once κs a r₁ r₂ s₁ s₂ p q = p ∙ sym q
+
+verdicts-set-codes-once : Once verdicts-set-codes.Post (λ κs r s. r)
+verdicts-set-codes-once κs a r₁ r₂ s₁ s₂ p q = p ∙ sym q
+
+verdicts-Edition-has-table-once : Once verdicts-Edition-has-table.Post (λ κs r s. r)
+verdicts-Edition-has-table-once κs a r₁ r₂ s₁ s₂ p q = p ∙ sym q
+
+verdicts-edition-of-once : Once verdicts-edition-of.Post (λ κs r s. r)
+verdicts-edition-of-once κs a r₁ r₂ s₁ s₂ p q = p ∙ sym q
+
+verdicts-is-supported-once : Once verdicts-is-supported.Post (λ κs r s. r)
+verdicts-is-supported-once κs a r₁ r₂ s₁ s₂ p q = p ∙ sym q
+
+verdicts-is-load-response-once : Once verdicts-is-load-response.Post (λ κs r s. r)
+verdicts-is-load-response-once κs a r₁ r₂ s₁ s₂ p q = p ∙ sym q
+
+verdicts-group-codes-once : Once verdicts-group-codes.Post (λ κs r s. r)
+verdicts-group-codes-once κs a r₁ r₂ s₁ s₂ p q = p ∙ sym q
+
+verdicts-declared-sets-once : Once verdicts-declared-sets.Post (λ κs r s. r)
+verdicts-declared-sets-once κs a r₁ r₂ s₁ s₂ p q = p ∙ sym q
+
+verdicts-verdict-once : Once verdicts-verdict.Post (λ κs r s. r)
+verdicts-verdict-once κs a r₁ r₂ s₁ s₂ p q = ap (λ (l : List ℕ). getD l 0 0) (p ∙ sym q)
+
+verdicts-allowed-once : Once verdicts-allowed.Post (λ κs r s. r)
+verdicts-allowed-once κs a r₁ r₂ s₁ s₂ p q = p ∙ sym q
+
+-- tables
+tables-number-once : Once tables-number.Post (λ κs r s. r)
+tables-number-once κs a r₁ r₂ s₁ s₂ p q = p ∙ sym q
+
+tables-is-segment-once : Once tables-is-segment.Post (λ κs r s. r)
+tables-is-segment-once κs a r₁ r₂ s₁ s₂ p q = p ∙ sym q
+
+tables-is-element-once : Once tables-is-element.Post (λ κs r s. r)
+tables-is-element-once κs a r₁ r₂ s₁ s₂ p q = p ∙ sym q
+
+tables-is-value-once : Once tables-is-value.Post (λ κs r s. r)
+tables-is-value-once κs a r₁ r₂ s₁ s₂ p q = p ∙ sym q
+
+tables-is-note-once : Once tables-is-note.Post (λ κs r s. r)
+tables-is-note-once κs a r₁ r₂ s₁ s₂ p q = p ∙ sym q
+
+tables-kind-of-once : Once tables-kind-of.Post (λ κs r s. r)
+tables-kind-of-once κs a r₁ r₂ s₁ s₂ p q = p ∙ sym q
+
+tables-relation-of-once : Once tables-relation-of.Post (λ κs r s. r)
+tables-relation-of-once κs a r₁ r₂ s₁ s₂ p q = p ∙ sym q
+
+tables-is-entry-once : Once tables-is-entry.Post (λ κs r s. r)
+tables-is-entry-once κs a r₁ r₂ s₁ s₂ p q = p ∙ sym q
+
+tables-next-entry-once : Once tables-next-entry.Post (λ κs r s. r)
+tables-next-entry-once κs a r₁ r₂ s₁ s₂ p q = p ∙ sym q
+
+tables-reach-once : Once tables-reach.Post (λ κs r s. r)
+tables-reach-once κs a r₁ r₂ s₁ s₂ p q = p ∙ sym q
+
+tables-next-mandatory-once : Once tables-next-mandatory.Post (λ κs r s. r)
+tables-next-mandatory-once κs a r₁ r₂ s₁ s₂ p q = p ∙ sym q
+
+tables-has-values-once : Once tables-has-values.Post (λ κs r s. r)
+tables-has-values-once κs a r₁ r₂ s₁ s₂ p q = p ∙ sym q
+
+tables-is-listed-once : Once tables-is-listed.Post (λ κs r s. r)
+tables-is-listed-once κs a r₁ r₂ s₁ s₂ p q = p ∙ sym q
+
+tables-id-at-once : Once tables-id-at.Post (λ κs r s. r)
+tables-id-at-once κs a r₁ r₂ s₁ s₂ p q = p ∙ sym q
+
+tables-is-known-once : Once tables-is-known.Post (λ κs r s. r)
+tables-is-known-once κs a r₁ r₂ s₁ s₂ p q = p ∙ sym q
+
+-- guides
+guides-directory-once : Once guides-directory.Post (λ κs r s. r)
+guides-directory-once κs a r₁ r₂ s₁ s₂ p q = p ∙ sym q
+
+guides-guide-006010-once : Once guides-guide-006010.Post (λ κs r s. r)
+guides-guide-006010-once κs a r₁ r₂ s₁ s₂ p q = p ∙ sym q
+
+guides-guide-004010-once : Once guides-guide-004010.Post (λ κs r s. r)
+guides-guide-004010-once κs a r₁ r₂ s₁ s₂ p q = p ∙ sym q
+
+-- elements
+elements-element-code-once : Once elements-element-code.Post (λ κs r s. r)
+elements-element-code-once κs a r₁ r₂ s₁ s₂ p q = p ∙ sym q
+
+elements-lacks-once : Once elements-lacks.Post (λ κs r s. r)
+elements-lacks-once κs a r₁ r₂ s₁ s₂ p q = p ∙ sym q
+
+elements-shuts-out-once : Once elements-shuts-out.Post (λ κs r s. r)
+elements-shuts-out-once κs a r₁ r₂ s₁ s₂ p q = p ∙ sym q
+
+elements-code-at-once : Once elements-code-at.Post (λ κs r s. r)
+elements-code-at-once κs a r₁ r₂ s₁ s₂ p q = p ∙ sym q
+
+elements-is-clean-once : Once elements-is-clean.Post (λ κs r s. r)
+elements-is-clean-once κs a r₁ r₂ s₁ s₂ p q = p ∙ sym q
+
+-- findings
+findings-start-once : Once findings-start.Post (λ κs r s. r)
+findings-start-once κs a r₁ r₂ s₁ s₂ p q = p ∙ sym q
+
+findings-next-once : Once findings-next.Post (λ κs r s. r)
+findings-next-once κs a r₁ r₂ s₁ s₂ p q = p ∙ sym q
+
+findings-is-noted-once : Once findings-is-noted.Post (λ κs r s. r)
+findings-is-noted-once κs a r₁ r₂ s₁ s₂ p q = p ∙ sym q
+
+-- writing
+writing-clipped-once : Once writing-clipped.Post (λ κs r s. r)
+writing-clipped-once κs a r₁ r₂ s₁ s₂ p q = p ∙ sym q
+
+writing-joined-once : Once writing-joined.Post (λ κs r s. r)
+writing-joined-once κs a r₁ r₂ s₁ s₂ p q = p ∙ sym q
+
+writing-put-byte-once : Once writing-put-byte.Post (λ κs r s. written r (now (s .0)))
+writing-put-byte-once κs a r₁ r₂ s₁ s₂ p q = wrote-once p q
+
+writing-put-bytes-once : Once writing-put-bytes.Post (λ κs r s. written r (now (s .0)))
+writing-put-bytes-once κs a r₁ r₂ s₁ s₂ p q = wrote-once p q
+
+writing-add-byte-once : Once writing-add-byte.Post (λ κs r s. written r (now (s .0)))
+writing-add-byte-once κs a r₁ r₂ s₁ s₂ p q = from-once p q
+
+writing-add-bytes-once : Once writing-add-bytes.Post (λ κs r s. written r (now (s .0)))
+writing-add-bytes-once κs a r₁ r₂ s₁ s₂ p q = from-once p q
+
+writing-put-number-once : Once writing-put-number.Post (λ κs r s. written r (now (s .0)))
+writing-put-number-once κs a r₁ r₂ s₁ s₂ p q = wrote-once p q
+
+writing-put-padded-once : Once writing-put-padded.Post (λ κs r s. written r (now (s .0)))
+writing-put-padded-once κs a r₁ r₂ s₁ s₂ p q = wrote-once p q
+
+writing-add-number-once : Once writing-add-number.Post (λ κs r s. written r (now (s .0)))
+writing-add-number-once κs a r₁ r₂ s₁ s₂ p q = from-once p q
+
+writing-add-padded-once : Once writing-add-padded.Post (λ κs r s. written r (now (s .0)))
+writing-add-padded-once κs a r₁ r₂ s₁ s₂ p q = from-once p q
+
+writing-add-field-once : Once writing-add-field.Post (λ κs r s. written r (now (s .0)))
+writing-add-field-once κs a r₁ r₂ s₁ s₂ p q = from-once p q
+
+writing-add-single-once : Once writing-add-single.Post (λ κs r s. written r (now (s .0)))
+writing-add-single-once κs a r₁ r₂ s₁ s₂ p q = from-once p q
+
+writing-add-count-once : Once writing-add-count.Post (λ κs r s. written r (now (s .0)))
+writing-add-count-once κs a r₁ r₂ s₁ s₂ p q = from-once p q
+
+writing-add-fixed-once : Once writing-add-fixed.Post (λ κs r s. written r (now (s .0)))
+writing-add-fixed-once κs a r₁ r₂ s₁ s₂ p q = from-once p q
+
+writing-add-optional-once : Once writing-add-optional.Post (λ κs r s. written r (now (s .0)))
+writing-add-optional-once κs a r₁ r₂ s₁ s₂ p q = from-once p q
+
+writing-add-codes-once : Once writing-add-codes.Post (λ κs r s. written r (now (s .0)))
+writing-add-codes-once κs a r₁ r₂ s₁ s₂ p q = from-once p q
+
+writing-add-pair-once : Once writing-add-pair.Post (λ κs r s. written r (now (s .0)))
+writing-add-pair-once κs a r₁ r₂ s₁ s₂ p q = from-once p q
+
+-- blocks
+blocks-add-isa-once : Once blocks-add-isa.Post (λ κs r s. written r (now (s .0)))
+blocks-add-isa-once κs a r₁ r₂ s₁ s₂ p q = from-once p q
+
+blocks-add-gs-once : Once blocks-add-gs.Post (λ κs r s. written r (now (s .0)))
+blocks-add-gs-once κs a r₁ r₂ s₁ s₂ p q = from-once p q
+
+blocks-add-st-once : Once blocks-add-st.Post (λ κs r s. written r (now (s .0)))
+blocks-add-st-once κs a r₁ r₂ s₁ s₂ p q = from-once p q
+
+blocks-add-ak1-once : Once blocks-add-ak1.Post (λ κs r s. written r (now (s .0)))
+blocks-add-ak1-once κs a r₁ r₂ s₁ s₂ p q = from-once p q
+
+blocks-add-ak2-once : Once blocks-add-ak2.Post (λ κs r s. written r (now (s .0)))
+blocks-add-ak2-once κs a r₁ r₂ s₁ s₂ p q = from-once p q
+
+blocks-add-ak4-once : Once blocks-add-ak4.Post (λ κs r s. written r (now (s .0)))
+blocks-add-ak4-once κs a r₁ r₂ s₁ s₂ p q = from-once p q
+
+blocks-add-ak5-once : Once blocks-add-ak5.Post (λ κs r s. written r (now (s .0)))
+blocks-add-ak5-once κs a r₁ r₂ s₁ s₂ p q = from-once p q
+
+blocks-add-ak9-once : Once blocks-add-ak9.Post (λ κs r s. written r (now (s .0)))
+blocks-add-ak9-once κs a r₁ r₂ s₁ s₂ p q = from-once p q
+
+blocks-add-se-once : Once blocks-add-se.Post (λ κs r s. written r (now (s .0)))
+blocks-add-se-once κs a r₁ r₂ s₁ s₂ p q = from-once p q
+
+blocks-add-ge-once : Once blocks-add-ge.Post (λ κs r s. written r (now (s .0)))
+blocks-add-ge-once κs a r₁ r₂ s₁ s₂ p q = from-once p q
+
+blocks-add-iea-once : Once blocks-add-iea.Post (λ κs r s. written r (now (s .0)))
+blocks-add-iea-once κs a r₁ r₂ s₁ s₂ p q = from-once p q
+
+-- notes
+notes-add-ak3-once : Once notes-add-ak3.Post (λ κs r s. written r (now (s .0)))
+notes-add-ak3-once κs a r₁ r₂ s₁ s₂ p q = from-once p q
+
+notes-put-notes-once : Once notes-put-notes.Post (λ κs r s. written r (now (s .0)))
+notes-put-notes-once κs a r₁ r₂ s₁ s₂ p q = tells-once p q
+
+-- first_line
+first-line-call-of-once : Once first-line-call-of.Post (λ κs r s. r)
+first-line-call-of-once κs a r₁ r₂ s₁ s₂ p q = p ∙ sym q
+
+first-line-put-refused-once : Once first-line-put-refused.Post (λ κs r s. written r (now (s .0)))
+first-line-put-refused-once κs a r₁ r₂ s₁ s₂ p q = wrote-once p q
