@@ -143,11 +143,10 @@ pub fn add_fixed(out: &mut [u8], n: usize, d: rules::Delimiters, v: u64, w: usiz
 pub fn add_optional(out: &mut [u8], n: usize, d: rules::Delimiters, v: u64) -> usize
     ensures { λ r. ⌜ From n (fieldsOut d (optional v ∷ [])) r (now (out .entry)) (now (out .exit)) ⌝ }
 {
-    let n = add_byte(out, n, d.element);
     if v == 0 {
-        return n;
+        return add_byte(out, n, d.element);
     }
-    add_number(out, n, v)
+    add_count(out, n, d, v)
 }
 
 // Codes as elements, each after its separator.
