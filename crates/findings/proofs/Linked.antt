@@ -3,7 +3,7 @@ use mathlib.Core.Path.{_≡_, refl, sym, ap, _∙_}
 use mathlib.Core.Bool.{Bool, true, false, _&&_, _||_, not, true≢false}
 use mathlib.Core.List.{List, [], _∷_, _++_, map, map-append, append-nil, append-assoc}
 use Prim.Native.Nat.{ℕ, zero, suc, _+_, _-_, _<_, _≤_}
-use native.Mathlib.Nat.{le-of-suc-le-suc, not-suc-le-zero, mod-eq-of-lt}
+use native.Mathlib.Nat.{le-of-suc-le-suc, not-suc-le-zero}
 use native.Mathlib.Omega.{arith}
 use borrow.Author.Tests.{lt-ltb, ltb-true, ltb-false, ne-eqb}
 use lib.Dec.{ltb, eqb}
@@ -17,10 +17,11 @@ use Rattle.rules.specs.Segments.{Note, echoed, noted, over, reach, missing, seg
 use Rattle.rules.specs.Segments as law
 use Rattle.rules.specs.declared.Delimiters.{Delimiters}
 use Rattle.rules.specs.declared.Finding.{Finding}
-use Rattle.rules.proofs.Logic.{and-left, and-right, all-head, all-tail}
+use Rattle.rules.proofs.Logic.{all-head, all-tail}
 use Rattle.text.proofs.Loops.{all-drop}
 use Rattle.text.proofs.Digits.{between-true}
-use Rattle.tables.specs.Reading.{Guide, entryAt, indexWhere, reachFrom, idIn, isEntryRow, idAt, idBytes}
+use Rattle.tables.specs.Reading.{Guide, Limits, isByte, entryAt, indexWhere, reachFrom, idIn, isEntryRow, idAt, idBytes, idsAreBytes}
+use Rattle.tables.proofs.Laws as reading
 use Rattle.findings.specs.Events.{Event, Line, Element, flat}
 use Rattle.findings.specs.Steps.{bumped, start, stands, ownOf, checkOf, entryOf, usedOf, passingOf, isChecked, codesOf}
 use Rattle.findings.specs.Left.{Slots, events, missingThen, foundSlot, surplusSlot, stagesThen, placesThen, lined, segmentThen, walkSlots, left}
@@ -47,27 +48,12 @@ flat-append (n ∷ a) b =
 
 -- 1. The entries that are passed over.
 -- a segment row has an id of bytes
-abbrev pub hasByteId : List ℕ → Bool
-hasByteId r = not (isRow 1 r) || (ltb (column r 1) 256 && ltb (column r 2) 256 && ltb (column r 3) 256)
-
-filled-id : (r : List ℕ) → column r 1 < 256 → column r 2 < 256 → column r 3 < 256 → idBytes (idAt (r ∷ []) 0) ≡ filled (idIn r)
-unfolding idBytes idAt filled
-filled-id [] h i j = refl
-filled-id (x ∷ []) h i j = refl
-filled-id (x ∷ (a ∷ [])) h i j = rw (mod-eq-of-lt h)
-filled-id (x ∷ (a ∷ (b ∷ []))) h i j = rw (mod-eq-of-lt h, mod-eq-of-lt i)
-filled-id (x ∷ (a ∷ (b ∷ (c ∷ r)))) h i j = rw (mod-eq-of-lt h, mod-eq-of-lt i, mod-eq-of-lt j)
+abbrev hasByteId : List ℕ → Bool
+hasByteId r = not (isRow 1 r) || all isByte (idIn r)
 
 id-bytes : (r : List ℕ) → isRow 1 r ≡ true → hasByteId r ≡ true → idBytes (idAt (r ∷ []) 0) ≡ filled (idIn r)
-id-bytes r e h =
-    let low = rw e at h in
-    let a = ltb (column r 1) 256 in
-    let b = ltb (column r 2) 256 in
-    let c = ltb (column r 3) 256 in
-    filled-id r
-    (ltb-true (column r 1) 256 (and-left a b (and-left (a && b) c low)))
-    (ltb-true (column r 2) 256 (and-right a b (and-left (a && b) c low)))
-    (ltb-true (column r 3) 256 (and-right (a && b) c low))
+unfolding idsAreBytes all
+id-bytes r e h = reading.id-bytes (r ∷ []) 0 (rw h) e
 
 slice-take : {A : Type 0} (k i e : ℕ) (xs : List A) → e ≡ k + i → slice k e xs ≡ take i (drop k xs)
 slice-take zero i e xs h = let q : e ≡ i = omega arith in rw q
@@ -402,12 +388,13 @@ first-in (r ∷ rows) e = omega arith
 
 -- Document 01: the events of a walk from the start are the notes of the set, by the table that the guide means.
 pub walk-notes : (set : Bytes) (d : Delimiters) (ids : List (List ℕ)) (rows : Guide) (closed : Bool)
-    → isRow 1 (getD rows 0 []) ≡ true → all hasByteId rows ≡ true → Small (length rows) → Small (length set)
+    → Limits rows → Small (length set)
     → events (left set d ids rows closed start) ≡ flat (notesOf d (tableOf ids rows) closed (segments d set))
-unfolding left start notesOf
-walk-notes set d ids rows closed first bytes small short =
+unfolding left start notesOf idsAreBytes
+walk-notes set d ids rows closed limits short =
     let few = segments-few d set in
-    walk-law d ids rows closed small bytes (segments d set) 0 0 1 (first-in rows first) (omega arith) (omega arith)
+    let small = limits .few in
+    walk-law d ids rows closed (omega arith) (limits .ids) (segments d set) 0 0 1 (first-in rows (limits .begins)) (omega arith) (omega arith)
     ∙ ap
     (λ (l : List Entry). flat (walk d (tableOf ids rows) closed (record { ahead = l; used = 0 }) 1 (segments d set)))
-    (sym (first-entry ids rows first))
+    (sym (first-entry ids rows (limits .begins)))

@@ -58,6 +58,7 @@ pub record Call-line (l : Bytes) : Type 0 where
   pub time : digits 4 4 (take 4 (drop 9 l)) ≡ true
   pub control : digits 1 9 (take (length l - 14) (drop 14 l)) ≡ true
   pub long : 14 < length l
+  pub short : length l ≤ 23
 
 pub call-line : (l : Bytes) → isCall l ≡ true → Call-line l
 unfolding isCall
@@ -66,12 +67,14 @@ call-line l e =
     let space = eqb (getD l 8 0) 32 in
     let time = digits 4 4 (slice 9 13 l) in
     let control = and-right (opening l) (digits 1 9 (drop 14 l)) e in
+    let size = digits-length 1 9 (drop 14 l) control in
     let timed = and-left (date && space && time) (eqb (getD l 13 0) 32) (and-left (opening l) (digits 1 9 (drop 14 l)) e) in
     record {
       date = and-left date space (and-left (date && space) time timed);
       time = rw (middle 9 4 l) at (and-right (date && space) time timed);
       control = rw rest control;
-      long = omega (arith, digits-length 1 9 (drop 14 l) control, length-drop 14 l);
+      long = omega (arith, size, length-drop 14 l);
+      short = omega (arith, size, length-drop 14 l);
     }
 
 -- a number of at most nine digits

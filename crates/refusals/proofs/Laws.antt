@@ -4,7 +4,7 @@ use mathlib.Core.Bool.{Bool, true, false}
 use mathlib.Core.List.{List, [], _∷_}
 use Prim.Native.Nat.{ℕ}
 use native.Mathlib.Omega.{arith}
-use borrow.Author.Tests.{eqb-true, ne-eqb}
+use borrow.Author.Tests.{eqb-true, eqb-false, ne-eqb}
 use lib.Dec.{eqb}
 use Rattle.rules.specs.Base.{Bytes, first, last}
 use Rattle.rules.specs.Cutting.{Segment, field, isa, delimiters, segments, split}
@@ -14,13 +14,14 @@ use Rattle.rules.specs.declared.Delimiters.{Delimiters}
 use Rattle.rules.proofs.Facts.{firstOf, refusal-blocks}
 use Rattle.frame.specs.Places.{part, frameOf}
 use Rattle.frame.specs.declared.Frame.{Frame}
+use Rattle.frame.specs.declared.Framed.{Framed}
 use Rattle.frame.specs.declared.Framed.the-variants.{Whole, Broken}
 use Rattle.frame.proofs.Laws.{FrameIs, whole-is, whole-passes, broken-refused}
 use Rattle.headers.specs.Rules.{headerRules, acknowledgmentRules}
 use Rattle.headers.proofs.Laws.{header-rules, acknowledgment-rules}
 use Rattle.sets.specs.Groups.{setRefusal}
 use Rattle.sets.proofs.Refused.{refusal-of}
-use Rattle.refusals.specs.Checks.{innerRefusal, checked}
+use Rattle.refusals.specs.Checks.{innerRefusal, soundIn, checked}
 use Rattle.refusals.specs.declared.Checked.the-variants.{Sound, Refused}
 
 -- 1. The first that is not 0.
@@ -39,6 +40,31 @@ only {n} {m} e = e ∙ go (eqb m 0) refl
     go : (b : Bool) → eqb m 0 ≡ b → m ≡ firstOf (m ∷ [])
     go true p = rw p (eqb-true m 0 p)
     go false p = rw p
+
+-- where it is 0, all are
+abbrev Clear : List ℕ → Type 0
+Clear [] = Unit {0}
+Clear (n ∷ ns) = (n ≡ 0) × Clear ns
+
+clear : (ns : List ℕ) → firstOf ns ≡ 0 → Clear ns
+unfolding firstOf
+clear [] e = tt
+clear (n ∷ ns) e = go (eqb n 0) refl (clear ns)
+  where
+    go : (b : Bool) → eqb n 0 ≡ b → (firstOf ns ≡ 0 → Clear ns) → (n ≡ 0) × Clear ns
+    go true p rest = (eqb-true n 0 p, rest (rw p at e))
+    go false p rest = absurd (eqb-false n 0 p (rw p at e))
+
+-- the blocks of an interchange without a refusal, those that say something to who answers it
+pub record Unrefused (i : Bytes) : Type 0 where
+  pub head : first (headRules i) ≡ 0
+  pub envelope : first (envelopeRules (segments (delimiters i) i)) ≡ 0
+  pub sets : first (setRules (delimiters i) (groupOf (segments (delimiters i) i))) ≡ 0
+
+pub unrefused : (i : Bytes) (date time control : ℕ) → refusal i date time control ≡ 0 → Unrefused i
+unrefused i date time control e =
+    let blocks = clear _ (sym (refusal-blocks i date time control) ∙ e) in
+    record { head = blocks .1 .0; envelope = blocks .1 .1 .1 .0; sets = blocks .1 .1 .1 .1 .1 .1 .1 .0 }
 
 -- 2. The blocks over the parts of a frame.
 module _ {d : Delimiters} {i : Bytes} {f : Frame} (w : FrameIs d i f) where
@@ -93,3 +119,38 @@ module _ (i : Bytes) (date time control : ℕ) {a b c : ℕ} (p : a ≡ first (c
 
   pub broken-decides : {d : Delimiters} → d ≡ delimiters i → frameOf d i ≡ Broken → 7 ≡ refusal i date time control
   broken-decides {d} e w = past-three 7 (here _ (sym (broken-refused (delimiters i) i (rw e at w))) (λ z. absurd (omega arith)))
+
+-- 4. What an answer of the checks says.
+-- a sound answer has the frame, and only a broken frame is refused
+sound-whole : (w : Framed) {f : Frame} → Sound f ≡ soundIn w → w ≡ Whole f
+sound-whole (Whole g) e = cc
+sound-whole Broken e = let z : _≡_ {A = ℕ} 0 1 = cc in absurd (omega arith)
+
+refused-broken : (w : Framed) {n : ℕ} → Refused n ≡ soundIn w → w ≡ Broken
+refused-broken (Whole g) e = let z : _≡_ {A = ℕ} 0 1 = cc in absurd (omega arith)
+refused-broken Broken e = refl
+
+module _ (i : Bytes) (date time control : ℕ) where
+  -- no frame is broken where there is no refusal
+  never-broken : refusal i date time control ≡ 0 → frameOf (delimiters i) i ≡ Broken → ⊥
+  never-broken e w =
+      let z : _≡_ {A = ℕ} 7 0 = sym (broken-refused (delimiters i) i w) ∙ unrefused i date time control e .envelope in
+      omega arith
+
+  -- sound: there is no refusal, and the frame is that of the interchange
+  pub sound-clear : {f : Frame} → Sound f ≡ checked i date time control → (refusal i date time control ≡ 0) × FrameIs (delimiters i) i f
+  unfolding checked
+  sound-clear {f} e = go (eqb (refusal i date time control) 0) refl
+    where
+      go : (b : Bool) → eqb (refusal i date time control) 0 ≡ b → (refusal i date time control ≡ 0) × FrameIs (delimiters i) i f
+      go true p = (eqb-true _ 0 p, whole-is (delimiters i) i (sound-whole _ (rw p at e)))
+      go false p = let q = rw p at e in let z : _≡_ {A = ℕ} 0 1 = cc in absurd (omega arith)
+
+  -- refused: the number is that of the refusal
+  pub refused-due : {n : ℕ} → Refused n ≡ checked i date time control → (n ≡ refusal i date time control) × (n ≡ 0 → ⊥)
+  unfolding checked
+  refused-due {n} e = go (eqb (refusal i date time control) 0) refl
+    where
+      go : (b : Bool) → eqb (refusal i date time control) 0 ≡ b → (n ≡ refusal i date time control) × (n ≡ 0 → ⊥)
+      go true p = absurd (never-broken (eqb-true _ 0 p) (refused-broken _ (rw p at e)))
+      go false p = let q : n ≡ refusal i date time control = cc (rw p at e) in (q, λ z. eqb-false _ 0 p (sym q ∙ z))

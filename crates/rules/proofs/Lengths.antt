@@ -12,7 +12,7 @@ use Rattle.rules.specs.Numbers.{padded, digitsOf, decimal}
 use Rattle.rules.specs.Segments.{Note}
 use Rattle.rules.specs.Sets.{SetReport, accepted}
 use Rattle.rules.specs.Groups.{GroupReport}
-use Rattle.rules.specs.Response.{fieldsOut, segmentOut, out, ak4, ak3, ak3s, ak2, ak5, ak1, ak9, isaOut, gsOut}
+use Rattle.rules.specs.Response.{fieldsOut, segmentOut, out, ak4, ak3, ak3s, ak2, ak5, block, blocks, ak1, ak9, stOut, seOut, told, transactionSet, isaOut, gsOut}
 use Rattle.rules.specs.declared.Delimiters.{Delimiters}
 use Rattle.rules.specs.declared.Finding.{Finding}
 
@@ -151,3 +151,38 @@ module _ (d : Delimiters) where
   unfolding gsOut fieldsOut
   gsOut-short gs date time control =
       simp (length-append, padded-length) (omega (arith, field-short gs 2, field-short gs 3, decimal-short control))
+
+  -- 5. Segments are no more than their bytes.
+  abbrev Counted : List Segment → Type 0
+  Counted ss = length ss ≤ length (out d ss)
+
+  ak4s-counted : (fs : List Finding) → Counted (map ak4 fs)
+  unfolding ak4
+  ak4s-counted [] = omega arith
+  ak4s-counted (f ∷ fs) = simp (out-cons, length-append) (omega (arith, ak4s-counted fs))
+
+  ak3-counted : (n : Note) → Counted (ak3 n)
+  unfolding ak3
+  ak3-counted n = simp (out-cons, length-append) (omega (arith, ak4s-counted (n .findings)))
+
+  ak3s-counted : (ns : List Note) → Counted (ak3s ns)
+  unfolding ak3s
+  ak3s-counted [] = omega arith
+  ak3s-counted (n ∷ ns) = simp (length-out-append, length-append) (omega (arith, ak3-counted n, ak3s-counted ns))
+
+  block-counted : (r : SetReport) → Counted (block r)
+  unfolding block ak2 ak5
+  block-counted r = simp (out-cons, length-out-append, length-append) (omega (arith, ak3s-counted (r .notes)))
+
+  blocks-counted : (rs : List SetReport) → Counted (blocks rs)
+  unfolding blocks
+  blocks-counted [] = omega arith
+  blocks-counted (r ∷ rs) = simp (length-out-append, length-append) (omega (arith, block-counted r, blocks-counted rs))
+
+  told-counted : (st02 : Bytes) (g : GroupReport) → Counted (told st02 g)
+  unfolding told stOut ak1 ak9
+  told-counted st02 g = simp (out-cons, length-out-append, length-append) (omega (arith, blocks-counted (g .sets)))
+
+  pub transaction-counted : (st02 : Bytes) (g : GroupReport) → Counted (transactionSet st02 g)
+  unfolding transactionSet seOut
+  transaction-counted st02 g = simp (out-cons, length-out-append, length-append) (omega (arith, told-counted st02 g))

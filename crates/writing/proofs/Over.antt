@@ -31,6 +31,13 @@ length-over [] o = refl
 length-over (x ∷ t) [] = refl
 length-over (x ∷ t) (y ∷ o) = ap suc (length-over t o)
 
+-- a text that fits stands before what lies after it
+pub over-fits : (t o : Bytes) → length t ≤ length o → over t o ≡ t ++ drop (length t) o
+unfolding over
+over-fits [] o h = refl
+over-fits (x ∷ t) [] h = absurd (not-suc-le-zero h)
+over-fits (x ∷ t) (y ∷ o) h = ap (λ (l : Bytes). x ∷ l) (over-fits t o (le-of-suc-le-suc h))
+
 -- one byte more of a text is one store more
 over-one : (t o : Bytes) (i : ℕ) → i < length t → over (take (suc i) t) o ≡ set (over (take i t) o) i (getD t i 0)
 unfolding over

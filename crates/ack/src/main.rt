@@ -1,0 +1,69 @@
+// The program: reads standard input, answers it, and writes the answer to standard output.
+ghost use Prim.Native.Nat.{_≤_};
+ghost use mathlib.Core.Path.{_≡_};
+ghost use lib.ListN.{length};
+ghost use Rattle.io.specs.Counts.{Counts};
+ghost use Rattle.exchange.specs.Deciding.{deciding};
+use libc::STDERR_FILENO;
+use libc::STDIN_FILENO;
+use libc::STDOUT_FILENO;
+
+// As much of an input as decides its answer.
+const MOST: usize = 65561;
+
+// The room for a response.
+const ROOM: usize = 65536;
+
+// What came of reading: how many bytes, and whether a read failed.
+struct Reading {
+    count: usize,
+    failed: bool,
+}
+
+// Reads until the input ends or the buffer is full. The rest of a longer input is not read: it makes no difference.
+fn read_input(input: &mut [u8]) -> Reading
+    requires { ⌜ deciding ≤ length (now input) ⌝ }
+    ensures { λ r. ⌜ Counts (r .count) (now (input .exit)) ⌝ }
+{
+    let mut n = 0;
+    while n < input.len() {
+        let got = libc::read(STDIN_FILENO, &mut input[n..]);
+        if got < 0 {
+            return Reading {
+                count: 0,
+                failed: true,
+            };
+        }
+        let more = io::count(got, &input[n..]);
+        if more == 0 {
+            break;
+        }
+        n += more;
+    }
+    Reading {
+        count: n,
+        failed: false,
+    }
+}
+
+// Writes the answer to an input, and says whether all of it was written. The output is the room for a response.
+fn write_answer(input: &[u8], output: &mut [u8]) -> bool
+    requires { ⌜ length (now output) ≡ 65536 ⌝ }
+{
+    let length = exchange::exchange(input, output);
+    io::write_all(STDOUT_FILENO, &output[..length])
+}
+
+fn main() {
+    let mut input: [u8; MOST] = [0; MOST];
+    let mut output: [u8; ROOM] = [0; ROOM];
+    let reading = read_input(&mut input);
+    if reading.failed {
+        io::write_all(STDERR_FILENO, b"ack: cannot read standard input\n");
+        return;
+    }
+    let n = reading.count;
+    if !write_answer(&input[..n], &mut output) {
+        io::write_all(STDERR_FILENO, b"ack: cannot write standard output\n");
+    }
+}

@@ -1,0 +1,94 @@
+-- What is printed for an answer and for a call, and how long it is.
+use Prim.Native.Nat.{ℕ, _≤_, _<_, max}
+use mathlib.Core.Path.{_≡_, refl, sym, _∙_}
+use mathlib.Core.Bool.{Bool, true, false}
+use native.Mathlib.Omega.{arith}
+use borrow.Author.Tests.{leb-true}
+use lib.Dec.{leb, eqb}
+use lib.ListN.{length, drop, length-append}
+use Rattle.rules.specs.Base.{Bytes, if_then_else_}
+use Rattle.rules.specs.Answers.{answer, buffer, Allowed}
+use Rattle.rules.specs.Refusals.{refusal}
+use Rattle.rules.specs.Response.{response}
+use Rattle.rules.specs.Program.{refusedText, printedAs, printed}
+use Rattle.rules.specs.declared.Answer.{Answer}
+use Rattle.rules.specs.declared.Answer.the-variants.{Written, Refused, TooLong}
+use Rattle.rules.proofs.Lengths.{decimal-short}
+use Rattle.writing.specs.Over.{over, Wrote}
+use Rattle.writing.proofs.Over.{over-fits}
+use Rattle.writing.proofs.Laws.{same, exact}
+use Rattle.first_line.specs.Calls.{callIn}
+use Rattle.first_line.specs.declared.Call.{Call}
+use Rattle.first_line.specs.declared.Call.the-variants.{Numbers, Bad}
+use Rattle.first_line.proofs.Laws.{printedBy, printed-by}
+
+-- the line of a refusal is short
+refused-short : (n : ℕ) → length (refusedText n) ≤ 29
+unfolding refusedText
+refused-short n = simp length-append (omega (arith, decimal-short n))
+
+-- 1. An answer.
+module _ (i : Bytes) (date time control : ℕ) where
+  abbrev reply : Bytes
+  reply = response i date time control
+
+  -- a response that was written fits
+  fits : (room n : ℕ) → Written n ≡ answer i room date time control → (n ≡ length reply) × (n ≤ room)
+  unfolding answer
+  fits room n e = go (eqb (refusal i date time control) 0) (leb (length reply) room) refl e
+    where
+      go : (sound q : Bool) → leb (length reply) room ≡ q
+          → Written n ≡ (if sound then (if q then Written (length reply) else TooLong (length reply)) else Refused (refusal i date time control))
+          → (n ≡ length reply) × (n ≤ room)
+      go true true h e = let k : n ≡ length reply = cc in (k, omega (arith, leb-true (length reply) room h))
+      go true false h e = let z : _≡_ {A = ℕ} 0 1 = cc in absurd (omega arith)
+      go false q h e = let z : _≡_ {A = ℕ} 0 1 = cc in absurd (omega arith)
+
+  -- what is printed is a response that fits, or a line
+  short : (room : ℕ) (a : Answer) → a ≡ answer i room date time control → length (printedAs a reply) ≤ max room 29
+  short room (Written n) e = omega (arith, fits room n e)
+  short room (Refused n) e = omega (arith, refused-short n)
+  short room (TooLong n) e = omega (arith, refused-short 14)
+
+  module _ {lent left : Bytes} {a : Answer} (allowed : Allowed i lent date time control a left) where
+    -- a response that was written is what is printed
+    pub written : {n : ℕ} → a ≡ Written n → length lent < 9223372036854775808
+        → Wrote (printedAs (answer i (length lent) date time control) reply) n lent left
+    unfolding Allowed
+    written {n} k small =
+        let e : Written n ≡ answer i (length lent) date time control = sym k ∙ allowed .0 in
+        let f = fits (length lent) n e in
+        rw (← e) (record { count = omega arith; bytes = allowed .1 ∙ rw (k, f .0) (sym (over-fits reply lent (omega arith))) })
+
+    -- a refusal leaves the buffer to the line that is printed
+    pub refused : {b : Answer} {n : ℕ} {out : Bytes} → a ≡ b → buffer b reply lent ≡ lent → Wrote (printedAs b reply) n left out
+        → Wrote (printedAs (answer i (length lent) date time control) reply) n lent out
+    unfolding Allowed
+    refused {b} k kept w =
+        let e : answer i (length lent) date time control ≡ b = sym (allowed .0) ∙ k in
+        let f : left ≡ lent = allowed .1 ∙ rw k kept in
+        rw (e, ← f) w
+
+-- 2. An input.
+module _ (input : Bytes) where
+  -- what is printed is no longer than the room, or than a line
+  pub printed-short : (room : ℕ) → length (printed input room) ≤ max room 29
+  unfolding printed
+  printed-short room = rw (printed-by input room (callIn input) refl) (go (callIn input))
+    where
+      go : (c : Call) → length (printedBy c input room) ≤ max room 29
+      go (Numbers date time control at) = short (drop at input) date time control room _ refl
+      go Bad = omega (arith, refused-short 1)
+
+  -- who writes what a call prints has answered the input
+  pub exchanged : {c : Call} {n : ℕ} {lent left : Bytes} → c ≡ callIn input → Wrote (printedBy c input (length lent)) n lent left
+      → length lent < 9223372036854775808
+      → (n ≡ length (printed input (length lent))) × (left ≡ over (printed input (length lent)) lent)
+  unfolding printed
+  exchanged {c} {n} {lent} e w small =
+      let p = same (printed-by input (length lent) c e) w in
+      (exact p (omega (arith, printed-short (length lent))), p .bytes)
+
+  -- an output that holds a line holds the answer
+  pub holds : (room : ℕ) {n : ℕ} → n ≡ length (printed input room) → 29 ≤ room → n ≤ room
+  holds room e h = omega (arith, printed-short room)
