@@ -9,7 +9,7 @@ pub mod coverage;
 mod draft;
 mod first_line;
 mod group_damage;
-mod prng;
+pub mod prng;
 mod refusals;
 mod set_damage;
 mod sizes;

@@ -1,0 +1,80 @@
+//! Holds the proved library and its program against the second program.
+
+mod cases;
+mod damage;
+mod outcome;
+mod pair;
+mod program;
+mod response;
+mod show;
+mod shrink;
+mod tally;
+
+use std::io;
+use std::path::Path;
+use std::process::ExitCode;
+use tally::Tally;
+
+const USAGE: &str = "\
+usage: compare cases [--seed S] [--count N]
+       compare damage [--seed S] [--count N]
+       compare program PATH [--seed S] [--count N]";
+
+/// Where what went wrong is written.
+const DIFFERENCES: &str = "target/differences";
+
+fn main() -> ExitCode {
+    let words: Vec<String> = std::env::args().skip(1).collect();
+    let words: Vec<&str> = words.iter().map(String::as_str).collect();
+    let mut tally = Tally::new(Path::new(DIFFERENCES));
+    match run(&words, &mut tally) {
+        None => {
+            eprintln!("{USAGE}");
+            ExitCode::from(2)
+        }
+        Some(Err(error)) => {
+            eprintln!("compare: {error}");
+            ExitCode::FAILURE
+        }
+        Some(Ok(())) => {
+            println!("{tally}");
+            if tally.all_passed() {
+                ExitCode::SUCCESS
+            } else {
+                ExitCode::FAILURE
+            }
+        }
+    }
+}
+
+/// Nothing where the words are no command.
+fn run(words: &[&str], tally: &mut Tally) -> Option<io::Result<()>> {
+    let library = outcome::of_library;
+    match words {
+        ["cases", options @ ..] => {
+            let (seed, count) = seed_and_count(options, 200_000)?;
+            Some(cases::compare(library, seed, count, tally))
+        }
+        ["damage", options @ ..] => {
+            let (seed, count) = seed_and_count(options, 5_000)?;
+            Some(damage::check(library, seed, count, tally))
+        }
+        ["program", path, options @ ..] => {
+            let (seed, count) = seed_and_count(options, 200)?;
+            Some(program::compare(path, seed, count, tally))
+        }
+        _ => None,
+    }
+}
+
+fn seed_and_count(options: &[&str], count: u64) -> Option<(u64, u64)> {
+    let mut found = (1, count);
+    for option in options.chunks(2) {
+        match option {
+            ["--seed", seed] => found.0 = seed.parse().ok()?,
+            ["--count", count] => found.1 = count.parse().ok()?,
+            _ => return None,
+        }
+    }
+    Some(found)
+}

@@ -1,0 +1,110 @@
+//! What a call leaves behind, by the proved library and by the second program.
+
+use second::generator::Case;
+
+/// Bytes on both sides of a buffer that are not lent, and must stay.
+const MARGIN: usize = 64;
+
+#[derive(Debug, Clone, PartialEq, Eq)]
+pub struct Outcome {
+    pub number: u32,
+    pub length: usize,
+    /// The buffer between its margins.
+    memory: Vec<u8>,
+}
+
+impl Outcome {
+    /// The first byte of memory that is not the same, counted from the start
+    /// of the buffer.
+    pub fn first_difference(&self, other: &Outcome) -> Option<isize> {
+        let mut pairs = self.memory.iter().zip(&other.memory);
+        let at = pairs.position(|(one, other)| one != other)?;
+        Some(at as isize - MARGIN as isize)
+    }
+
+    fn buffer(&self) -> &[u8] {
+        &self.memory[MARGIN..self.memory.len() - MARGIN]
+    }
+
+    /// As much of the response as the buffer can hold.
+    pub fn response(&self) -> &[u8] {
+        let buffer = self.buffer();
+        &buffer[..self.length.min(buffer.len())]
+    }
+
+    #[cfg(test)]
+    pub fn buffer_mut(&mut self) -> &mut [u8] {
+        let end = self.memory.len() - MARGIN;
+        &mut self.memory[MARGIN..end]
+    }
+}
+
+/// What `call` makes of a buffer of this case, of which every byte is `lent`.
+fn outcome(case: &Case, lent: u8, call: impl FnOnce(&mut [u8]) -> (u32, usize)) -> Outcome {
+    let mut memory = vec![lent; MARGIN + case.buffer_length + MARGIN];
+    let (number, length) = call(&mut memory[MARGIN..][..case.buffer_length]);
+    Outcome {
+        number,
+        length,
+        memory,
+    }
+}
+
+pub fn of_library(case: &Case, lent: u8) -> Outcome {
+    outcome(case, lent, |buffer| {
+        let mut length = usize::MAX;
+        // SAFETY: each pointer goes with the length of its slice, is not null
+        // even for an empty one, and the mutable borrows overlap with nothing.
+        let number = unsafe {
+            x12_acknowledge(
+                case.interchange.as_ptr(),
+                case.interchange.len(),
+                buffer.as_mut_ptr(),
+                buffer.len(),
+                case.date,
+                case.time,
+                case.control,
+                &mut length,
+            )
+        };
+        (number, length)
+    })
+}
+
+pub fn of_second(case: &Case, lent: u8) -> Outcome {
+    outcome(case, lent, |buffer| {
+        let answer = case.answer();
+        let response = answer.response();
+        buffer[..response.len()].copy_from_slice(response);
+        (u32::from(answer.number()), answer.length())
+    })
+}
+
+extern "C" {
+    fn x12_acknowledge(
+        interchange: *const u8,
+        interchange_length: usize,
+        response: *mut u8,
+        response_length: usize,
+        date: u32,
+        time: u32,
+        control: u32,
+        length: *mut usize,
+    ) -> u32;
+}
+
+#[cfg(test)]
+mod tests {
+    use super::*;
+
+    #[test]
+    fn a_byte_written_outside_the_buffer_is_a_difference() {
+        let case = Case::make(990, 0);
+        let outcome = of_second(&case, 0);
+        for outside in [MARGIN - 1, MARGIN + case.buffer_length] {
+            let mut other = outcome.clone();
+            other.memory[outside] = 1;
+            assert_ne!(other, outcome);
+        }
+    }
+}
