@@ -8,6 +8,8 @@ use denote.Ref.{now}
 use Rattle.rules.specs.Base.{Bytes}
 use Rattle.rules.specs.Cutting.{Segment}
 use Rattle.rules.specs.declared.Delimiters.{Delimiters}
+use Rattle.rules.specs.Answers.{Outcome}
+use Rattle.rules.proofs.Facts.{once, once-answer}
 use Rattle.writing.specs.Over.{Wrote, From}
 use Rattle.notes.specs.Saying.{Tells}
 use Rattle.notes.specs.declared.Told.{Told}
@@ -119,6 +121,9 @@ use Rattle.notes.proofs.add_ak3.Reads as notes-add-ak3
 use Rattle.notes.proofs.put_notes.Reads as notes-put-notes
 use Rattle.first_line.proofs.call_of.Reads as first-line-call-of
 use Rattle.first_line.proofs.put_refused.Reads as first-line-put-refused
+use Rattle.acknowledgment.proofs.acknowledge.Reads as acknowledgment-acknowledge
+use Rattle.acknowledgment.proofs.x12_acknowledge.Reads as acknowledgment-x12-acknowledge
+use Rattle.exchange.proofs.exchange.Reads as exchange-exchange
 
 -- 1. What a caller sees of a result and of what it lent is the same for any two that a contract allows.
 abbrev pub Once {ℓ} : {K : Type ℓ} {A R S W : K → Type 0} → ((κs : K) → A κs → R κs → S κs → Type 0) → ((κs : K) → R κs → S κs → W κs) → Type ℓ
@@ -142,6 +147,13 @@ told-same p q e = rw (p, q, e)
 tells-once : {d : Delimiters} {ss : List Segment} {r₁ r₂ : Told} {o o₁ o₂ : Bytes} → Tells d ss r₁ o o₁ → Tells d ss r₂ o o₂ → written r₁ o₁ ≡ written r₂ o₂
 tells-once p q =
     told-same (p .text .count ∙ sym (q .text .count)) (p .number ∙ sym (q .number)) (p .text .bytes ∙ sym (q .text .bytes))
+
+both-same {ℓ} : {R : Type ℓ} {r₁ r₂ : R} {o₁ o₂ : Bytes} → r₁ ≡ r₂ → o₁ ≡ o₂ → written r₁ o₁ ≡ written r₂ o₂
+both-same p q = rw (p, q)
+
+-- what the face for C returns, stores and leaves
+abbrev pub outcome : ℕ → ℕ → Bytes → Outcome
+outcome number size buffer = record { number = number; size = size; buffer = buffer }
 
 -- 2. The functions, crate by crate.
 -- rules
@@ -484,3 +496,15 @@ first-line-call-of-once κs a r₁ r₂ s₁ s₂ p q = p ∙ sym q
 
 first-line-put-refused-once : Once first-line-put-refused.Post (λ κs r s. written r (now (s .0)))
 first-line-put-refused-once κs a r₁ r₂ s₁ s₂ p q = wrote-once p q
+
+-- acknowledgment
+acknowledgment-acknowledge-once : Once acknowledgment-acknowledge.Post (λ κs r s. written r (now (s .1 .0)))
+acknowledgment-acknowledge-once κs a r₁ r₂ s₁ s₂ p q =
+    both-same (once-answer _ _ _ _ _ _ _ _ _ p q) (ap (λ (o : Outcome). o .buffer) (once _ _ _ _ _ _ _ _ _ p q))
+
+acknowledgment-x12-acknowledge-once : Once acknowledgment-x12-acknowledge.Post (λ κs r s. outcome r (now (s .1 .1 .1 .1 .1 .0)) (now (s .1 .0)))
+acknowledgment-x12-acknowledge-once κs a r₁ r₂ s₁ s₂ p q = p ∙ sym q
+
+-- exchange
+exchange-exchange-once : Once exchange-exchange.Post (λ κs r s. written r (now (s .1 .0)))
+exchange-exchange-once κs a r₁ r₂ s₁ s₂ p q = both-same (p .0 ∙ sym (q .0)) (p .1 ∙ sym (q .1))

@@ -205,7 +205,7 @@ respond-parts i date time control =
       append-assoc (blocks (r .sets)) (ak9 r ∷ (se ∷ [])) (geOut 1 control ∷ (ieaOut 1 control ∷ [])),
     )
 
-response-parts : (i : Bytes) (date time control : ℕ)
+pub response-parts : (i : Bytes) (date time control : ℕ)
     → response i date time control
     ≡ out (delimiters i) (opening i date time control) ++ joined (blocksIn i) ++ out (delimiters i) (closing i control)
 unfolding response blocksIn
