@@ -1,5 +1,6 @@
 //! What a call leaves behind, by the proved library and by the second program.
 
+use acknowledgment::{number_and_length, Numbers};
 use second::generator::Case;
 
 /// Bytes on both sides of a buffer that are not lent, and must stay.
@@ -51,23 +52,13 @@ fn outcome(case: &Case, lent: u8, call: impl FnOnce(&mut [u8]) -> (u32, usize)) 
 }
 
 pub fn of_library(case: &Case, lent: u8) -> Outcome {
+    let numbers = Numbers {
+        date: case.date,
+        time: case.time,
+        control: case.control,
+    };
     outcome(case, lent, |buffer| {
-        let mut length = usize::MAX;
-        // SAFETY: each pointer goes with the length of its slice, is not null
-        // even for an empty one, and the mutable borrows overlap with nothing.
-        let number = unsafe {
-            x12_acknowledge(
-                case.interchange.as_ptr(),
-                case.interchange.len(),
-                buffer.as_mut_ptr(),
-                buffer.len(),
-                case.date,
-                case.time,
-                case.control,
-                &mut length,
-            )
-        };
-        (number, length)
+        number_and_length(&case.interchange, buffer, numbers)
     })
 }
 
@@ -78,19 +69,6 @@ pub fn of_second(case: &Case, lent: u8) -> Outcome {
         buffer[..response.len()].copy_from_slice(response);
         (u32::from(answer.number()), answer.length())
     })
-}
-
-extern "C" {
-    fn x12_acknowledge(
-        interchange: *const u8,
-        interchange_length: usize,
-        response: *mut u8,
-        response_length: usize,
-        date: u32,
-        time: u32,
-        control: u32,
-        length: *mut usize,
-    ) -> u32;
 }
 
 #[cfg(test)]

@@ -1,8 +1,6 @@
 //! `acknowledge FILE`: answers the exchange in a file, which is a line of
 //! date, time and control number and then the interchange, as in `samples/`.
 
-mod acknowledgment;
-
 use acknowledgment::{acknowledge, Numbers};
 use std::error::Error;
 use std::io::{self, Write};

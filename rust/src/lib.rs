@@ -1,5 +1,4 @@
-//! The library's one function, safe to call. `include/acknowledgment.h` says
-//! all about it.
+//! The acknowledgment of one X12 interchange: a 997, or the number of a refusal. `include/acknowledgment.h` says all about it.
 
 extern "C" {
     fn x12_acknowledge(
@@ -48,7 +47,16 @@ pub fn acknowledge<'a>(
     buffer: &'a mut [u8],
     numbers: Numbers,
 ) -> Result<&'a [u8], Refusal> {
-    let mut length = 0;
+    match number_and_length(interchange, buffer, numbers) {
+        (0, length) => Ok(&buffer[..length]),
+        (14, needed) => Err(Refusal::BufferTooShort { needed }),
+        (number, _) => Err(Refusal::Numbered(number)),
+    }
+}
+
+/// The same as it comes back from the library.
+pub fn number_and_length(interchange: &[u8], buffer: &mut [u8], numbers: Numbers) -> (u32, usize) {
+    let mut length = usize::MAX;
     // SAFETY: each pointer goes with the length of its slice, is not null even
     // for an empty one, and what is borrowed mutably overlaps with nothing.
     let number = unsafe {
@@ -63,9 +71,5 @@ pub fn acknowledge<'a>(
             &mut length,
         )
     };
-    match number {
-        0 => Ok(&buffer[..length]),
-        14 => Err(Refusal::BufferTooShort { needed: length }),
-        _ => Err(Refusal::Numbered(number)),
-    }
+    (number, length)
 }
