@@ -1,0 +1,106 @@
+//! Interchanges to be timed: what a partner sends all day, and the worst that fits.
+
+pub struct Input {
+    pub name: String,
+    pub interchange: Vec<u8>,
+    /// The length of the buffer that is lent, and the caller's control number.
+    pub room: usize,
+    pub control: u32,
+    /// The number of the answer.
+    pub number: u8,
+}
+
+/// Room for the longest response here.
+pub const ROOM: usize = 4 << 20;
+
+fn input(name: impl Into<String>, interchange: impl Into<Vec<u8>>) -> Input {
+    Input {
+        name: name.into(),
+        interchange: interchange.into(),
+        room: ROOM,
+        control: 77,
+        number: 0,
+    }
+}
+
+const ISA: &str = "ISA*00*          *00*          *ZZ*CARRIERA       *ZZ*BROKERB        *240315*0915*U*00601*000000042*0*T*>~";
+const GS: &str = "GS*GF*CARRA*BROKB*20240315*0915*42*X*006010~";
+
+fn interchange(sets: usize, group: &str) -> String {
+    format!("{ISA}{GS}{group}GE*{sets}*42~IEA*1*000000042~")
+}
+
+/// A group of so many sets, each made from its control number.
+fn group(sets: usize, set: impl Fn(usize) -> String) -> String {
+    let group: String = (1..=sets).map(set).collect();
+    interchange(sets, &group)
+}
+
+fn clean_set(number: usize) -> String {
+    format!("ST*990*{number:04}~B1*ABCD*L{number:04}*20240315*A~L11*4711*CN~SE*4*{number:04}~")
+}
+
+fn faulty_set(number: usize) -> String {
+    format!("ST*990*{number:04}~B1*ABCDE*L101*20241315*Q~L11**CN~SE*3*{number:04}~")
+}
+
+fn header(number: usize) -> String {
+    format!("ST*990*{number:04}~")
+}
+
+/// One set with these bytes between header and trailer.
+fn one_set(body: &str) -> String {
+    interchange(1, &format!("ST*990*0001~{body}SE*3*0001~"))
+}
+
+pub fn answered() -> Vec<Input> {
+    let mut inputs: Vec<Input> = [10, 100, 450, 900]
+        .map(|sets| input(format!("{sets} clean sets"), group(sets, clean_set)))
+        .into();
+    inputs.extend([
+        input("900 faulty sets", group(900, faulty_set)),
+        input("4800 headers, different numbers", group(4800, header)),
+        input("4800 headers, the same number", group(4800, |_| header(1))),
+        input("60000 empty segments", one_set(&"~".repeat(60_000))),
+        input(
+            "a segment of 60000 separators",
+            one_set(&format!("B1{}~", "*".repeat(60_000))),
+        ),
+    ]);
+    inputs
+}
+
+/// One input for each refusal, of the length of 900 clean sets where its cause
+/// leaves it a length.
+pub fn refused() -> Vec<Input> {
+    let clean = group(900, clean_set);
+    let first = |from: &str, to: &str| clean.replacen(from, to, 1);
+    let last = |from: &str, to: &str| {
+        let (before, after) = clean.rsplit_once(from).expect("each is there");
+        format!("{before}{to}{after}")
+    };
+    let mut inputs: Vec<Input> = [
+        (1, clean.clone()),
+        (2, clean.repeat(2)),
+        (3, first("ISA*", "ISB*")),
+        (4, first("T*>~", "T*A~")),
+        (5, first("*T*>~", "*X*>~")),
+        (6, format!("{clean} ")),
+        (7, last("GE*900", "GS~GE*900")),
+        (8, last("IEA*1", "IEA*2")),
+        (9, first("*0915*42*X", "*2400*42*X")),
+        (10, first("GS*GF", "GS*FA")),
+        (11, last("GE*900", "B1~GE*900")),
+        (12, interchange(0, "")),
+        (13, last("ST*990*0900", "ST*990*900")),
+        (14, clean.clone()),
+    ]
+    .map(|(number, interchange)| Input {
+        number,
+        ..input(format!("refusal {number}"), interchange)
+    })
+    .into();
+    inputs[0].control = 0;
+    inputs[13].room = 100;
+    inputs
+}

@@ -1,0 +1,74 @@
+//! Times the proved library and the second program on the same interchanges, in one process: the best of many runs, in ns a byte.
+
+mod inputs;
+
+use acknowledgment::{number_and_length, Numbers};
+use inputs::Input;
+use std::hint::black_box;
+use std::time::{Duration, Instant};
+
+const DATE: u32 = 20240315;
+const TIME: u32 = 930;
+
+/// How long each side runs on one input.
+const DURATION: Duration = Duration::from_millis(500);
+
+/// The shortest of many runs, in ns.
+fn best(mut run: impl FnMut()) -> f64 {
+    let start = Instant::now();
+    let mut best = Duration::MAX;
+    while start.elapsed() < DURATION {
+        let run_start = Instant::now();
+        run();
+        best = best.min(run_start.elapsed());
+    }
+    best.as_nanos() as f64
+}
+
+fn library(input: &Input, buffer: &mut [u8]) -> (u32, usize) {
+    let numbers = Numbers {
+        date: DATE,
+        time: TIME,
+        control: input.control,
+    };
+    number_and_length(&input.interchange, &mut buffer[..input.room], numbers)
+}
+
+fn second(input: &Input) -> second::Answer {
+    second::answer(&input.interchange, input.room, DATE, TIME, input.control)
+}
+
+/// A time says nothing where the answers differ, or are not what they are meant to be.
+fn assert_answers(input: &Input, buffer: &mut [u8]) {
+    let (number, length) = library(input, buffer);
+    let answer = second(input);
+    assert_eq!(answer.number(), input.number, "{}", input.name);
+    assert_eq!(number, u32::from(input.number), "{}", input.name);
+    assert_eq!(length, answer.length(), "{}", input.name);
+    assert!(buffer.starts_with(answer.response()), "{}", input.name);
+}
+
+fn row(input: &Input, buffer: &mut [u8]) {
+    assert_answers(input, buffer);
+    let bytes = input.interchange.len() as f64;
+    let library = best(|| {
+        black_box(library(black_box(input), buffer));
+    }) / bytes;
+    let second = best(|| {
+        black_box(second(black_box(input)));
+    }) / bytes;
+    let ratio = library / second;
+    println!(
+        "| {} | {bytes} | {library:.2} | {second:.2} | {ratio:.2} |",
+        input.name
+    );
+}
+
+fn main() {
+    let mut buffer = vec![0; inputs::ROOM];
+    println!("| Interchange | bytes | library, ns a byte | second, ns a byte | ratio |");
+    println!("|---|---|---|---|---|");
+    for input in inputs::answered().iter().chain(&inputs::refused()) {
+        row(input, &mut buffer);
+    }
+}
