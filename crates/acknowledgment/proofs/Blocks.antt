@@ -8,32 +8,35 @@ use native.Mathlib.Omega.{arith}
 use borrow.Author.Tests.{ne-eqb}
 use lib.Dec.{eqb}
 use lib.ListN.{length, take, drop, length-append, length-take, length-drop, length-map}
-use Rattle.rules.specs.Base.{Bytes, ascii, null, isNone, same, member, if_then_else_}
-use Rattle.rules.specs.Cutting.{Segment, field, split, pieces, segments}
+use Rattle.rules.specs.Base.{Bytes, ascii, null, any, isNone, same, member, if_then_else_}
+use Rattle.rules.specs.Cutting.{field, split, pieces, segments}
 use Rattle.rules.specs.Numbers.{decimal}
 use Rattle.rules.specs.Tables.{Table, tableOf}
 use Rattle.rules.specs.Segments.{Note}
-use Rattle.rules.specs.Sets.{Set, SetReport, segmentsOf, notesIn, setCodes, setReport}
+use Rattle.rules.specs.Sets.{Set, SetReport, segmentsOf, controlOf, notesIn, setCodes, setReport, accepted}
 use Rattle.rules.specs.Response.{segmentOut, ak2, ak3, ak3s, ak5, block}
 use Rattle.rules.specs.declared.Delimiters.{Delimiters}
 use Rattle.tables.specs.Reading.{Guide, Limits}
+use Rattle.text.specs.Text.{indexOf}
+use Rattle.segments.proofs.Pieces.{segments-at}
 use Rattle.sets.specs.declared.SetAt.{SetAt}
-use Rattle.sets.proofs.Sets.{SetIs, setIn}
+use Rattle.sets.proofs.Sets.{SetIs, setIn, header-at}
 use Rattle.verdicts.specs.Collecting.{codesOf, collected}
 use Rattle.verdicts.specs.Verdicts.{trailerIf, setCodeRules}
 use Rattle.verdicts.specs.declared.Codes.{Codes}
-use Rattle.verdicts.proofs.Collected.{Held, collected-held, empty-by-count}
 use Rattle.verdicts.proofs.Laws.{closed-if, trailer-if, set-codes}
-use Rattle.findings.specs.Events.{written}
+use Rattle.findings.specs.Events.{flat, written}
 use Rattle.findings.specs.Left.{events, left}
 use Rattle.findings.specs.Steps.{start}
 use Rattle.findings.proofs.Linked.{walk-notes}
-use Rattle.findings.proofs.Told.{written-flat}
+use Rattle.findings.proofs.Told.{written-flat, null-flat}
 use Rattle.writing.specs.Over.{sat, From}
 use Rattle.writing.proofs.Laws.{whole}
 use Rattle.writing.proofs.Segments.{one, then as next}
-use Rattle.acknowledgment.specs.Writers.{TellsFrom, tableWith, Blocked}
+use Rattle.notes.specs.Saying.{Tells}
 use Rattle.notes.specs.declared.Told.{Told}
+use Rattle.acknowledgment.specs.Writers.{TellsFrom, tableWith}
+use Rattle.acknowledgment.specs.Surveys.{setHere, acceptance}
 
 -- 1. The parts of a set.
 -- These are the bytes of a set, of its header and, where it is closed, of its trailer.
@@ -56,11 +59,11 @@ parts-at {r = r} is small p q t = record {
 
 -- 2. The segments of a report.
 -- AK2, the notes and AK5, one after the other, are the block of a report
-block-written : {d : Delimiters} {r : SetReport} {told : Told} {n l m : ℕ} {v : Bool} {o o₁ o₂ o₃ : Bytes}
+block-written : {d : Delimiters} (r : SetReport) {told : Told} {n l m : ℕ} {o o₁ o₂ o₃ : Bytes}
     → From 0 (segmentOut d (ak2 r)) n o o₁ → TellsFrom n d (ak3s (r .notes)) told o₁ o₂ → From (told .length) (segmentOut d (ak5 r)) l o₂ o₃
-    → m ≡ sat (told .segments + 2) → v ≡ null (r .codes) → Blocked d r (record { length = l; segments = m; accepted = v }) o o₃
+    → m ≡ sat (told .segments + 2) → Tells d (block r) (record { length = l; segments = m }) o o₃
 unfolding block
-block-written {d} {r} a b c e f =
+block-written {d} r a b c e =
     let number = b .number in
     record {
       text =
@@ -68,8 +71,24 @@ block-written {d} {r} a b c e f =
           (next d (ak2 r ∷ []) (ak3s (r .notes) ++ ak5 r ∷ []) (one d (ak2 r) a)
           (next d (ak3s (r .notes)) (ak5 r ∷ []) (b .text) (one d (ak5 r) c)));
       number = simp length-append (omega arith);
-      verdict = f;
     }
+
+-- the header of the set at a place
+header-here : (d : Delimiters) (body : Bytes) (at end : ℕ) → at < length body → end ≡ at + indexOf (d .terminator) (drop at body)
+    → split (d .element) (take (end - at) (drop at body)) ≡ setHere d body at .header
+unfolding setIn
+header-here d body at end h q = let e = segments-at d body at end h q in let f = header-at d body at _ h refl in cc
+
+-- AK2 and AK5 are the block of an accepted set
+pub acceptance-written : {d : Delimiters} (body : Bytes) (at : ℕ) {st : Bytes} {end n l : ℕ} {o o₁ o₂ : Bytes} → at < length body
+    → end ≡ at + indexOf (d .terminator) (drop at body) → st ≡ take (end - at) (drop at body)
+    → From 0 (segmentOut d (ascii "AK2" ∷ field (split (d .element) st) 1 ∷ field (split (d .element) st) 2 ∷ [])) n o o₁
+    → From n (segmentOut d (ascii "AK5" ∷ ascii "A" ∷ [])) l o₁ o₂
+    → Tells d (acceptance (setHere d body at)) (record { length = l; segments = 2 }) o o₂
+unfolding acceptance
+acceptance-written {d} body at {end = end} h q p a b =
+    let first = rw (p, header-here d body at end h q) at a in
+    record { text = whole (next d (_ ∷ []) (_ ∷ []) (one d _ first) (one d _ b)); number = omega arith }
 
 -- there are notes where the number of their segments is not 0
 are-notes : (ns : List Note) {m : ℕ} → m ≡ sat (length (ak3s ns)) → not (eqb m 0) ≡ not (null ns)
@@ -87,49 +106,64 @@ has-table true t = refl
 has-table false t = refl
 
 module _ {d : Delimiters} {s : Set} {closed : Bool} {bs st se : Bytes} (parts : Parts d s closed bs st se)
-    (ids : List (List ℕ)) {rows : Guide} (limits : Limits rows) (earlier : List Bytes) where
+    (ids : List (List ℕ)) {rows : Guide} (limits : Limits rows) where
   abbrev notes : Bool → List Note
   notes supported = notesIn d (tableIf supported (tableOf ids rows)) s
 
-  -- the codes as collected by the parts, where the notes have m segments
-  abbrev codesBy : Bool → ℕ → Codes
-  codesBy supported m =
-      collected
-      (setCodeRules supported (split (d .element) st) (trailerIf closed (split (d .element) se)) (length (pieces (d .terminator) bs)) (not (eqb m 0))
-      (member (field (split (d .element) st) 2) earlier))
+  -- the events of a walk through the set are its notes
+  events-are : events (left bs d ids rows closed start) ≡ flat (notes true)
+  events-are =
+      rw (walk-notes bs d ids rows closed limits (parts .short), parts .whole, ← parts .trailer, ← closed-if closed (split (d .element) se), Bool·not-not closed)
 
-  -- what a walk through the set says is its notes
+  -- what the walk says is its notes
   notes-are : (supported : Bool) → (if supported then map written (events (left bs d ids rows closed start)) else []) ≡ ak3s (notes supported)
   unfolding ak3s
-  notes-are true =
-      rw (walk-notes bs d ids rows closed limits (parts .short), parts .whole, ← parts .trailer, ← closed-if closed (split (d .element) se), Bool·not-not closed)
-      (written-flat _)
+  notes-are true = rw events-are (written-flat _)
   notes-are false = refl
 
-  -- the codes collected are the set's
-  codes-are : (supported : Bool) {codes : Codes} {m : ℕ} → m ≡ sat (length (ak3s (notes supported)))
-      → codes ≡ codesBy supported m → codesOf codes ≡ setCodes (tableIf supported (tableOf ids rows)) (notes supported) earlier s
+  noted-are : (supported : Bool) → supported && not (null (events (left bs d ids rows closed start))) ≡ not (null (notes supported))
+  noted-are true = rw (events-are, null-flat (notes true))
+  noted-are false = refl
+
+  -- the codes as collected by the parts
+  abbrev codesBy : Bool → Bool → Bool → Codes
+  codesBy supported noted repeated =
+      collected
+      (setCodeRules supported (split (d .element) st) (trailerIf closed (split (d .element) se)) (length (pieces (d .terminator) bs)) noted repeated)
+
+  -- are the set's
+  codes-are : (supported : Bool) (earlier : List Bytes) {codes : Codes} {noted repeated : Bool} → noted ≡ not (null (notes supported))
+      → repeated ≡ member (controlOf s) earlier → codes ≡ codesBy supported noted repeated
+      → codesOf codes ≡ setCodes (tableIf supported (tableOf ids rows)) (notes supported) earlier s
   unfolding segments
-  codes-are supported e f =
+  codes-are supported earlier e g f =
       rw f
       (set-codes _ (notes supported) earlier s (has-table supported (tableOf ids rows)) (parts .header) (parts .trailer)
-      (sym (ap length (parts .whole) ∙ length-map (pieces (d .terminator) bs) (split (d .element))))
-      (are-notes (notes supported) e) (ap (λ (x : Segment). member (field x 2) earlier) (parts .header)))
+      (sym (ap length (parts .whole) ∙ length-map (pieces (d .terminator) bs) (split (d .element)))) e g)
+
+  -- whether a set has no code, where its number is new
+  pub clean-is : (known : Bool) {supported noted r : Bool} {codes : Codes}
+      → supported ≡ known && same (field (split (d .element) st) 1) (ascii "990")
+      → noted ≡ supported && not (null (events (left bs d ids rows closed start)))
+      → codes ≡ codesBy supported noted false → r ≡ null (codesOf codes)
+      → r ≡ accepted (setReport d (tableWith known (tableOf ids rows) s) [] s)
+  unfolding setReport any
+  clean-is known {supported} e n f g =
+      let which = rw (parts .header) at e in
+      rw (← which) (g ∙ ap null (codes-are supported [] (n ∙ noted-are supported) refl f))
 
   -- what is written of a set by its parts is the block of its report
-  pub block-of : (known : Bool) {supported : Bool} {codes : Codes} {told : Told} {n l m : ℕ} {o o₁ o₂ o₃ : Bytes}
+  pub block-of : (known : Bool) (earlier : List Bytes) {supported repeated : Bool} {codes : Codes} {told : Told} {n l m : ℕ} {o o₁ o₂ o₃ : Bytes}
       → supported ≡ known && same (field (split (d .element) st) 1) (ascii "990")
       → From 0 (segmentOut d (ascii "AK2" ∷ field (split (d .element) st) 1 ∷ field (split (d .element) st) 2 ∷ [])) n o o₁
       → TellsFrom n d (if supported then map written (events (left bs d ids rows closed start)) else []) told o₁ o₂
-      → codes ≡ codesBy supported (told .segments)
+      → codes ≡ codesBy supported (not (eqb (told .segments) 0)) repeated
       → From (told .length) (segmentOut d (ascii "AK5" ∷ (if null (codesOf codes) then ascii "A" else ascii "R") ∷ map decimal (codesOf codes))) l o₂ o₃
-      → m ≡ sat (told .segments + 2)
-      → Blocked d (setReport d (tableWith known (tableOf ids rows) s) earlier s) (record { length = l; segments = m; accepted = eqb (codes .count) 0 }) o o₃
+      → m ≡ sat (told .segments + 2) → repeated ≡ member (controlOf s) earlier
+      → Tells d (block (setReport d (tableWith known (tableOf ids rows) s) earlier s)) (record { length = l; segments = m }) o o₃
   unfolding setReport ak2 ak5
-  block-of known {supported} {codes} e a b f c g =
+  block-of known earlier {supported} {codes = codes} e a b f c g k =
       let tells = rw (notes-are supported) at b in
-      let same-codes = codes-are supported (tells .number) f in
-      let held : Held codes = rw f (collected-held _) in
+      let same-codes = codes-are supported earlier (are-notes (notes supported) (tells .number)) k f in
       let which = rw (parts .header) at e in
-      rw (← which)
-      (block-written (rw (parts .header) at a) tells (rw same-codes at c) g (empty-by-count codes (held .room) ∙ ap null same-codes))
+      rw (← which) (block-written _ (rw (parts .header) at a) tells (rw same-codes at c) g)

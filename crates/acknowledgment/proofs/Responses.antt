@@ -1,5 +1,5 @@
 -- The segments of a response, joined: AK9, the transaction set, and the whole.
-use Prim.Native.Nat.{ℕ, _+_, _≤_}
+use Prim.Native.Nat.{ℕ, _+_}
 use mathlib.Core.Path.{_≡_, refl, ap, _∙_, fun-ext}
 use mathlib.Core.Bool.{Bool, true, false}
 use mathlib.Core.List.{List, [], _∷_, _++_, map}
@@ -10,17 +10,16 @@ use Rattle.rules.specs.Base.{Bytes, ascii, same, if_then_else_}
 use Rattle.rules.specs.Cutting.{Segment, field, delimiters, isa, split, segments}
 use Rattle.rules.specs.Numbers.{decimal}
 use Rattle.rules.specs.Tables.{Table, tableOf}
-use Rattle.rules.specs.Sets.{Set, setsOf, declaredIn}
+use Rattle.rules.specs.Sets.{Set, declaredIn}
 use Rattle.rules.specs.Groups.{Group, GroupReport, groupOf, groupReport, sets, tableIn, setReports, acceptedIn, verdict, or-else}
 use Rattle.rules.specs.Response.{segmentOut, out, ak1, ak9, blocks, stOut, seOut, told, transactionSet, isaOut, gsOut, geOut, ieaOut, respond, response}
 use Rattle.rules.specs.declared.Delimiters.{Delimiters}
 use Rattle.rules.proofs.Facts.{reports-count}
 use Rattle.rules.proofs.Lengths.{transaction-counted}
-use Rattle.tables.specs.Reading.{Guide, Limits}
+use Rattle.tables.specs.Reading.{Guide}
 use Rattle.frame.specs.Places.{part}
 use Rattle.frame.specs.declared.Frame.{Frame}
 use Rattle.frame.proofs.Laws.{trailerIn, FrameIs}
-use Rattle.sets.proofs.Refused.{Passed}
 use Rattle.verdicts.specs.Collecting.{codesOf, collected}
 use Rattle.verdicts.specs.Verdicts.{trailerIf, groupCodeRules}
 use Rattle.verdicts.specs.declared.Codes.{Codes}
@@ -28,8 +27,11 @@ use Rattle.verdicts.proofs.Laws.{group-codes}
 use Rattle.writing.specs.Over.{sat, Wrote, From}
 use Rattle.writing.proofs.Laws.{seq, said, whole}
 use Rattle.writing.proofs.Segments.{one, then as onward}
-use Rattle.acknowledgment.specs.Writers.{tableWith, Tallied, summary, Answerable}
-use Rattle.acknowledgment.specs.declared.Tally.{Tally}
+use Rattle.notes.specs.Saying.{Tells}
+use Rattle.notes.specs.declared.Told.{Told}
+use Rattle.acknowledgment.specs.Writers.{tableWith, summary, Answerable}
+use Rattle.acknowledgment.specs.Surveys.{reports, Surveyed, Open}
+use Rattle.acknowledgment.specs.declared.Survey.{Survey}
 
 -- 1. AK9, by its verdict, its numbers and its codes.
 pub summary-made : (gs : Segment) (ge : Option Segment) (received ok : ℕ) {codes : Codes} {v declared allowed : ℕ}
@@ -51,11 +53,17 @@ group-at {d} {i} {f = f} h p q r = h .group ∙ rw (p, q, r, trailer-at (f .clos
     trailer-at true = refl
     trailer-at false = refl
 
--- what the blocks of the sets ask of the body
-pub sets-asked : {d : Delimiters} {i body : Bytes} {f : Frame} {ids : List (List ℕ)} {rows : Guide} {known : Bool}
-    → Answerable d i f ids rows known → body ≡ part i (f .body) (f .«body_end»)
-    → Passed d (segments d body) × ((length body ≤ 65536) × Limits rows)
-sets-asked a q = rw q (a .passed, (simp (length-take, length-drop) (omega (arith, a .short)), a .limits))
+-- what a look at the sets asks of the body
+pub sets-open : {d : Delimiters} {i body : Bytes} {f : Frame} {ids : List (List ℕ)} {rows : Guide} {known : Bool} {starts marks : List ℕ}
+    → Answerable d i f ids rows known → body ≡ part i (f .body) (f .«body_end») → length starts ≡ 5462 → length marks ≡ 5462
+    → Open d body rows starts marks
+sets-open a q l m = record {
+  passed = rw q (a .passed);
+  short = rw q (simp (length-take, length-drop) (omega (arith, a .short)));
+  limits = a .limits;
+  places = l;
+  marked = m;
+}
 
 -- ST to AK9, by the reports of the sets and their numbers
 told-is : (d : Delimiters) (st02 : Bytes) (g : Group) {table : Set → Option Table} {received ok : ℕ} → tableIn (g .header) ≡ table
@@ -66,10 +74,11 @@ told-is : (d : Delimiters) (st02 : Bytes) (g : Group) {table : Set → Option Ta
 unfolding told ak1 ak9 groupReport summary
 told-is d st02 g {table} e p q = rw (e, q, p, reports-count d table [] (sets g), group-codes g refl refl refl)
 
-module _ {d : Delimiters} {i gs body ge : Bytes} {f : Frame} {ids : List (List ℕ)} {rows : Guide} {known : Bool} {t : Tally} {x y : Bytes}
+module _ {d : Delimiters} {i gs body ge : Bytes} {f : Frame} {ids : List (List ℕ)} {rows : Guide} {known : Bool} {starts marks : List ℕ} {survey : Survey} {t : Told} {x y : Bytes}
     (a : Answerable d i f ids rows known)
     (p : gs ≡ part i (f .gs) (f .«gs_end»)) (q : body ≡ part i (f .body) (f .«body_end»)) (r : ge ≡ part i (f .ge) (f .«ge_end»))
-    (w : Tallied d (setReports d (tableWith known (tableOf ids rows)) [] (setsOf (segments d body))) t x y) where
+    (v : Surveyed d (tableWith known (tableOf ids rows)) body starts marks survey)
+    (w : Tells d (blocks (reports d (tableWith known (tableOf ids rows)) body)) t x y) where
   abbrev st02 : Bytes
   st02 = ascii "0001"
 
@@ -77,19 +86,19 @@ module _ {d : Delimiters} {i gs body ge : Bytes} {f : Frame} {ids : List (List �
   report = groupReport d (groupOf (segments d i))
 
   abbrev setBlocks : List Segment
-  setBlocks = blocks (setReports d (tableWith known (tableOf ids rows)) [] (setsOf (segments d body)))
+  setBlocks = blocks (reports d (tableWith known (tableOf ids rows)) body)
 
   abbrev opening : Segment
   opening = ascii "AK1" ∷ field (split (d .element) gs) 1 ∷ field (split (d .element) gs) 6 ∷ []
 
   abbrev closing : Segment
-  closing = summary (split (d .element) gs) (trailerIf (f .closed) (split (d .element) ge)) (t .sets) (t .accepted)
+  closing = summary (split (d .element) gs) (trailerIf (f .closed) (split (d .element) ge)) (survey .sets) (survey .accepted)
 
   -- ST to AK9, as the pieces are
   told-made : told st02 report ≡ stOut st02 ∷ (opening ∷ (setBlocks ++ closing ∷ []))
   told-made =
       ap (λ (g : Group). told st02 (groupReport d g)) (group-at (a .frame) p q r)
-      ∙ told-is d st02 _ (rw p (fun-ext (a .table))) (w .received) (w .allowed)
+      ∙ told-is d st02 _ (rw p (fun-ext (a .table))) (v .received) (v .allowed)
 
   -- SE01 is exact: segments are no more than their bytes, which a usize counts
   told-counts : {count : ℕ} → count ≡ sat (t .segments + 4) → count ≡ length (told st02 report) + 1

@@ -2,16 +2,16 @@
 use Prim.Native.Nat.{ℕ, _≤_, _<_}
 use mathlib.Core.Path.{_≡_}
 use mathlib.Core.Bool.{Bool, _&&_}
-use mathlib.Core.List.{List, [], _∷_, map}
+use mathlib.Core.List.{List, _∷_, map}
 use mathlib.Core.Option.{Option, none, some}
 use lib.ListN.{length}
 use Rattle.rules.specs.Base.{Bytes, ascii, same, if_then_else_}
 use Rattle.rules.specs.Cutting.{Segment, field, split, segments}
 use Rattle.rules.specs.Numbers.{decimal}
 use Rattle.rules.specs.Tables.{Table, tableOf}
-use Rattle.rules.specs.Sets.{Set, SetReport, accepted, declaredIn}
-use Rattle.rules.specs.Groups.{groupOf, tableIn, acceptedIn, groupReport, verdict, or-else}
-use Rattle.rules.specs.Response.{out, block, blocks, transactionSet}
+use Rattle.rules.specs.Sets.{Set, declaredIn}
+use Rattle.rules.specs.Groups.{groupOf, tableIn, groupReport, verdict, or-else}
+use Rattle.rules.specs.Response.{out, transactionSet}
 use Rattle.rules.specs.declared.Delimiters.{Delimiters}
 use Rattle.tables.specs.Reading.{Guide, Limits}
 use Rattle.frame.specs.Places.{part}
@@ -20,10 +20,8 @@ use Rattle.frame.proofs.Laws.{FrameIs}
 use Rattle.sets.proofs.Refused.{Passed}
 use Rattle.verdicts.specs.Collecting.{codesOf, collected}
 use Rattle.verdicts.specs.Verdicts.{groupCodeRules}
-use Rattle.writing.specs.Over.{sat, Wrote, From}
+use Rattle.writing.specs.Over.{sat, From}
 use Rattle.notes.specs.declared.Told.{Told}
-use Rattle.acknowledgment.specs.declared.Block.{Block}
-use Rattle.acknowledgment.specs.declared.Tally.{Tally}
 
 -- The segments ss were written after n bytes of o, which leaves o′: r has the length so far and their number.
 pub record TellsFrom (n : ℕ) (d : Delimiters) (ss : List Segment) (r : Told) (o o′ : Bytes) : Type 0 where
@@ -33,19 +31,6 @@ pub record TellsFrom (n : ℕ) (d : Delimiters) (ss : List Segment) (r : Told) (
 -- the table of a set, where the group has this one or none
 abbrev pub tableWith : Bool → Table → Set → Option Table
 tableWith known t s = if known && same (field (s .header) 1) (ascii "990") then some t else none
-
--- The block of a report was written.
-pub record Blocked (d : Delimiters) (report : SetReport) (r : Block) (o o′ : Bytes) : Type 0 where
-  pub text : Wrote (out d (block report)) (r .length) o o′
-  pub number : r .segments ≡ sat (length (block report))
-  pub verdict : r .accepted ≡ accepted report
-
--- The blocks of reports were written.
-pub record Tallied (d : Delimiters) (reports : List SetReport) (r : Tally) (o o′ : Bytes) : Type 0 where
-  pub text : Wrote (out d (blocks reports)) (r .length) o o′
-  pub number : r .segments ≡ sat (length (blocks reports))
-  pub received : r .sets ≡ length reports
-  pub allowed : r .accepted ≡ acceptedIn reports
 
 -- AK9 by GS, GE and the numbers of sets received and accepted
 unfoldable pub summary : Segment → Option Segment → ℕ → ℕ → Segment

@@ -1,27 +1,30 @@
 // The acknowledgment of an interchange: a 997, or the number of a refusal.
 ghost use mathlib.Core.Path.{_≡_};
-ghost use mathlib.Core.List.{[], map};
-ghost use Prim.Native.Nat.{_+_, _≤_};
-ghost use lib.ListN.{length, take};
-ghost use Rattle.rules.specs.Base.{ascii, if_then_else_};
+ghost use mathlib.Core.List.{List, [], map};
+ghost use Prim.Native.Nat.{_<_};
+ghost use lib.ListN.{length};
+ghost use Rattle.rules.specs.Base.{Bytes, ascii, member, if_then_else_};
 ghost use Rattle.rules.specs.Cutting as cutting;
 ghost use Rattle.rules.specs.Tables.{tableOf};
-ghost use Rattle.rules.specs.Sets.{setsOf, setReport};
-ghost use Rattle.rules.specs.Groups.{groupOf, setReports, groupReport};
+ghost use Rattle.rules.specs.Sets.{controlOf, accepted};
+ghost use Rattle.rules.specs.Groups.{groupOf, groupReport};
 ghost use Rattle.rules.specs.Refusals.{refusal};
 ghost use Rattle.rules.specs.Response as text;
 ghost use Rattle.rules.specs.Answers.{Allowed, fitting, buffer, called};
 ghost use Rattle.tables.specs.Reading.{Limits};
+ghost use Rattle.frame.specs.Places.{part};
 ghost use Rattle.frame.proofs.Laws.{FrameIs};
-ghost use Rattle.sets.specs.Places.{controlsAt};
-ghost use Rattle.sets.proofs.Refused.{Passed};
-ghost use Rattle.sets.proofs.Sets.{SetIs, setIn};
+ghost use Rattle.sets.specs.Places.{setAt};
+ghost use Rattle.sets.proofs.Sets.{SetIs};
+ghost use Rattle.register.proofs.Entered.{Entered};
 ghost use Rattle.verdicts.specs.Verdicts.{trailerIf};
 ghost use Rattle.findings.specs.Events.{written};
 ghost use Rattle.findings.specs.Left.{events, left};
 ghost use Rattle.findings.specs.Steps.{start};
 ghost use Rattle.writing.specs.Over.{Wrote, From};
-ghost use Rattle.acknowledgment.specs.Writers.{TellsFrom, tableWith, Blocked, Tallied, summary, Answerable};
+ghost use Rattle.notes.specs.Saying.{Tells};
+ghost use Rattle.acknowledgment.specs.Writers.{TellsFrom, tableWith, summary, Answerable};
+ghost use Rattle.acknowledgment.specs.Surveys.{Room, EnteredNext, setHere, reportAt, reports, markOf, Marked, acceptance, Surveyed, Open};
 use frame::Frame;
 use notes::Told;
 use refusals::Checked;
@@ -36,19 +39,119 @@ const ST02: [u8; 4] = *b"0001";
 // As many sets as fit in the longest interchange: each takes twelve bytes at least.
 const MOST_SETS: usize = 5462;
 
-// What was written of the block of a set: its length, how many segments it has, and whether the set is accepted.
-struct Block {
-    length: usize,
-    segments: usize,
-    accepted: bool,
-}
+// The marks of a set: it has no code; it has some; one of them is that its control number was used before.
+const ACCEPTED: u8 = 0;
 
-// What was written of the blocks of a group.
-struct Tally {
-    length: usize,
-    segments: usize,
+const REJECTED: u8 = 1;
+
+const REPEATED: u8 = 2;
+
+// How many sets a group has, and how many of them are accepted.
+struct Survey {
     sets: usize,
     accepted: usize,
+}
+
+// Whether a set before the one at `at`, which is set k, has its ST02. The set is entered for those after it.
+fn enter(
+    body: &[u8],
+    d: Delimiters,
+    starts: &mut [u32],
+    heads: &mut [u16],
+    links: &mut [u16],
+    k: usize,
+    at: usize,
+) -> bool
+    requires { ⌜ (Entered d (now body) (now starts) (now heads) (now links) k) × Room (now starts) (now heads) (now links) k at ⌝ }
+    ensures { λ r. ⌜ EnteredNext d (now (body .entry)) (now (starts .entry)) k at r (now (starts .exit)) (now (heads .exit)) (now (links .exit)) ⌝ }
+{
+    let control = sets::control_at(body, d, at);
+    let bucket = register::bucket_of(control);
+    let last = heads[bucket];
+    let repeated = register::is_repeated(body, d, starts, links, last as usize, control);
+    starts[k] = at as u32;
+    links[k] = last;
+    heads[bucket] = (k + 1) as u16;
+    repeated
+}
+
+// The set at a place has no code, where its control number was not used before.
+fn is_clean(
+    body: &[u8],
+    d: Delimiters,
+    at: usize,
+    place: SetAt,
+    directory: &[[u8; 3]],
+    guide: &[[u16; 6]],
+    known: bool,
+) -> bool
+    requires { ⌜ (place ≡ setAt d (now body) at) × ((SetIs d (now body) at place) × Limits (now guide)) ⌝ }
+    ensures { λ r. ⌜ r ≡ accepted (reportAt d (tableWith known (tableOf (now (directory .entry)) (now (guide .entry)))) (now (body .entry)) at []) ⌝ }
+{
+    let set = sets::part(body, at, place.end);
+    let header = sets::part(body, at, place.header);
+    let trailer = sets::part(body, place.trailer, place.end - 1);
+    let closed = place.closed;
+    let supported = known && verdicts::is_load_response(segments::field(header, d.element, 1));
+    let noted = supported && findings::is_noted(set, d, directory, guide, closed);
+    let count = segments::segment_count(set, d.terminator);
+    verdicts::set_codes(supported, closed, trailer, header, d, count, noted, false).is_empty()
+}
+
+// The mark of the set at a place.
+fn mark_of(
+    body: &[u8],
+    d: Delimiters,
+    at: usize,
+    place: SetAt,
+    directory: &[[u8; 3]],
+    guide: &[[u16; 6]],
+    known: bool,
+    repeated: bool,
+) -> u8
+    requires { ⌜ (place ≡ setAt d (now body) at) × ((SetIs d (now body) at place) × Limits (now guide)) ⌝ }
+    ensures { λ r. ⌜ r ≡ markOf repeated (reportAt d (tableWith known (tableOf (now (directory .entry)) (now (guide .entry)))) (now (body .entry)) at []) ⌝ }
+{
+    if repeated {
+        return REPEATED;
+    }
+    if is_clean(body, d, at, place, directory, guide, known) {
+        ACCEPTED
+    } else {
+        REJECTED
+    }
+}
+
+// One look at each set of a group: where it starts, and its mark.
+fn survey_sets(
+    body: &[u8],
+    d: Delimiters,
+    directory: &[[u8; 3]],
+    guide: &[[u16; 6]],
+    known: bool,
+    starts: &mut [u32],
+    marks: &mut [u8],
+) -> Survey
+    requires { ⌜ Open d (now body) (now guide) (now starts) (now marks) ⌝ }
+    ensures { λ r. ⌜ Surveyed d (tableWith known (tableOf (now (directory .entry)) (now (guide .entry)))) (now (body .entry)) (now (starts .exit)) (now (marks .exit)) r ⌝ }
+{
+    let mut heads: [u16; register::BUCKETS] = [0; register::BUCKETS];
+    let mut links: [u16; MOST_SETS] = [0; MOST_SETS];
+    let mut sets = 0;
+    let mut accepted = 0;
+    let mut at = 0;
+    while at < body.len() {
+        let place = sets::next_set(body, d, at);
+        let repeated = enter(body, d, starts, &mut heads, &mut links, sets, at);
+        let mark = mark_of(body, d, at, place, directory, guide, known, repeated);
+        marks[sets] = mark;
+        if mark == ACCEPTED {
+            accepted += 1;
+        }
+        sets += 1;
+        at = place.end;
+    }
+    Survey { sets, accepted }
 }
 
 // The notes of a set after n bytes; a set without a table has none.
@@ -78,22 +181,34 @@ fn add_notes(
     }
 }
 
-// The block of a set, AK2 to AK5. The first `count` of `starts` are where the sets before it start.
-fn put_block(
+// The block of an accepted set: AK2 and AK5.
+fn put_accepted(out: &mut [u8], body: &[u8], d: Delimiters, at: usize) -> Told
+    requires { ⌜ at < length (now body) ⌝ }
+    ensures { λ r. ⌜ Tells d (acceptance (setHere d (now (body .entry)) at)) r (now (out .entry)) (now (out .exit)) ⌝ }
+{
+    let header = sets::part(body, at, text::find(body, at, d.terminator));
+    let n = blocks::add_ak2(out, 0, d, header);
+    Told {
+        length: blocks::add_ak5(out, n, d, &header[0..0]),
+        segments: 2,
+    }
+}
+
+// The block of a rejected set: AK2, its notes, and AK5 with its codes.
+fn put_rejected(
     out: &mut [u8],
     body: &[u8],
     d: Delimiters,
     at: usize,
-    place: SetAt,
     directory: &[[u8; 3]],
     guide: &[[u16; 6]],
     known: bool,
-    starts: &[u32],
-    count: usize,
-) -> Block
-    requires { ⌜ (SetIs d (now body) at place) × Limits (now guide) ⌝ }
-    ensures { λ r. ⌜ Blocked d (setReport d (tableWith known (tableOf (now (directory .entry)) (now (guide .entry))) (setIn d (now (body .entry)) at place)) (controlsAt d (now (body .entry)) (take count (now (starts .entry)))) (setIn d (now (body .entry)) at place)) r (now (out .entry)) (now (out .exit)) ⌝ }
+    repeated: bool,
+) -> Told
+    requires { ⌜ (SetIs d (now body) at (setAt d (now body) at)) × Limits (now guide) ⌝ }
+    ensures { λ r. ⌜ ((earlier : List Bytes) → repeated ≡ member (controlOf (setHere d (now (body .entry)) at)) earlier → Tells d (text.block (reportAt d (tableWith known (tableOf (now (directory .entry)) (now (guide .entry)))) (now (body .entry)) at earlier)) r (now (out .entry)) (now (out .exit))) ⌝ }
 {
+    let place = sets::next_set(body, d, at);
     let set = sets::part(body, at, place.end);
     let header = sets::part(body, at, place.header);
     let trailer = sets::part(body, place.trailer, place.end - 1);
@@ -109,24 +224,37 @@ fn put_block(
         d,
         segments::segment_count(set, d.terminator),
         told.segments != 0,
-        sets::is_repeated(
-            body,
-            d,
-            starts,
-            count,
-            segments::field(header, d.element, 2),
-        ),
+        repeated,
     );
     let list = codes.list;
     let most = codes.count;
-    Block {
+    Told {
         length: blocks::add_ak5(out, told.length, d, &list[0..most]),
         segments: writing::joined(told.segments, 2),
-        accepted: most == 0,
     }
 }
 
-// The blocks of the sets of a group.
+// The block of the set that starts at `at` and has this mark.
+fn put_block(
+    out: &mut [u8],
+    body: &[u8],
+    d: Delimiters,
+    at: usize,
+    mark: u8,
+    directory: &[[u8; 3]],
+    guide: &[[u16; 6]],
+    known: bool,
+) -> Told
+    requires { ⌜ (at < length (now body)) × ((SetIs d (now body) at (setAt d (now body) at)) × Limits (now guide)) ⌝ }
+    ensures { λ r. ⌜ ((earlier : List Bytes) → Marked d (tableWith known (tableOf (now (directory .entry)) (now (guide .entry)))) (now (body .entry)) at earlier mark → Tells d (text.block (reportAt d (tableWith known (tableOf (now (directory .entry)) (now (guide .entry)))) (now (body .entry)) at earlier)) r (now (out .entry)) (now (out .exit))) ⌝ }
+{
+    if mark == ACCEPTED {
+        return put_accepted(out, body, d, at);
+    }
+    put_rejected(out, body, d, at, directory, guide, known, mark == REPEATED)
+}
+
+// The blocks of the sets of a group, as surveyed.
 fn put_sets(
     out: &mut [u8],
     body: &[u8],
@@ -134,45 +262,36 @@ fn put_sets(
     directory: &[[u8; 3]],
     guide: &[[u16; 6]],
     known: bool,
-) -> Tally
-    requires { ⌜ Passed d (cutting.segments d (now body)) × ((length (now body) ≤ 65536) × Limits (now guide)) ⌝ }
-    ensures { λ r. ⌜ Tallied d (setReports d (tableWith known (tableOf (now (directory .entry)) (now (guide .entry)))) [] (setsOf (cutting.segments d (now (body .entry))))) r (now (out .entry)) (now (out .exit)) ⌝ }
+    starts: &[u32],
+    marks: &[u8],
+    survey: Survey,
+) -> Told
+    requires { ⌜ (Surveyed d (tableWith known (tableOf (now directory) (now guide))) (now body) (now starts) (now marks) survey) × Limits (now guide) ⌝ }
+    ensures { λ r. ⌜ Tells d (text.blocks (reports d (tableWith known (tableOf (now (directory .entry)) (now (guide .entry)))) (now (body .entry)))) r (now (out .entry)) (now (out .exit)) ⌝ }
 {
-    let mut starts: [u32; MOST_SETS] = [0; MOST_SETS];
     let mut n = 0;
     let mut segments = 0;
-    let mut sets = 0;
-    let mut accepted = 0;
-    let mut at = 0;
-    while at < body.len() {
-        let place = sets::next_set(body, d, at);
+    let mut k = 0;
+    while k < survey.sets {
+        let at = starts[k] as usize;
         let rest = writing::clipped(n, out.len());
-        let block = put_block(
+        let told = put_block(
             &mut out[rest..],
             body,
             d,
             at,
-            place,
+            marks[k],
             directory,
             guide,
             known,
-            &starts,
-            sets,
         );
-        n = writing::joined(n, block.length);
-        segments = writing::joined(segments, block.segments);
-        if block.accepted {
-            accepted += 1;
-        }
-        starts[sets] = at as u32;
-        sets += 1;
-        at = place.end;
+        n = writing::joined(n, told.length);
+        segments = writing::joined(segments, told.segments);
+        k += 1;
     }
-    Tally {
+    Told {
         length: n,
         segments,
-        sets,
-        accepted,
     }
 }
 
@@ -216,8 +335,11 @@ fn add_transaction_set(
     directory: &[[u8; 3]],
     guide: &[[u16; 6]],
     known: bool,
+    starts: &[u32],
+    marks: &[u8],
+    survey: Survey,
 ) -> usize
-    requires { ⌜ Answerable d (now i) f (now directory) (now guide) known ⌝ }
+    requires { ⌜ (Answerable d (now i) f (now directory) (now guide) known) × Surveyed d (tableWith known (tableOf (now directory) (now guide))) (part (now i) (f .body) (f .«body_end»)) (now starts) (now marks) survey ⌝ }
     ensures { λ r. ⌜ From n (text.out d (text.transactionSet (ascii "0001") (groupReport d (groupOf (cutting.segments d (now (i .entry))))))) r (now (out .entry)) (now (out .exit)) ⌝ }
 {
     let gs = sets::part(i, f.gs, f.gs_end);
@@ -226,10 +348,20 @@ fn add_transaction_set(
     let n = blocks::add_st(out, n, d, &ST02);
     let n = blocks::add_ak1(out, n, d, gs);
     let at = writing::clipped(n, out.len());
-    let tally = put_sets(&mut out[at..], body, d, directory, guide, known);
-    let n = writing::joined(n, tally.length);
-    let n = add_verdict(out, n, d, gs, ge, f.closed, tally.sets, tally.accepted);
-    blocks::add_se(out, n, d, writing::joined(tally.segments, 4), &ST02)
+    let told = put_sets(
+        &mut out[at..],
+        body,
+        d,
+        directory,
+        guide,
+        known,
+        starts,
+        marks,
+        survey,
+    );
+    let n = writing::joined(n, told.length);
+    let n = add_verdict(out, n, d, gs, ge, f.closed, survey.sets, survey.accepted);
+    blocks::add_se(out, n, d, writing::joined(told.segments, 4), &ST02)
 }
 
 // The response, ISA to IEA.
@@ -241,22 +373,37 @@ fn put_response(
     directory: &[[u8; 3]],
     guide: &[[u16; 6]],
     known: bool,
+    starts: &[u32],
+    marks: &[u8],
+    survey: Survey,
     date: u32,
     time: u32,
     control: u32,
 ) -> usize
-    requires { ⌜ (d ≡ cutting.delimiters (now i)) × Answerable d (now i) f (now directory) (now guide) known ⌝ }
+    requires { ⌜ (d ≡ cutting.delimiters (now i)) × ((Answerable d (now i) f (now directory) (now guide) known) × Surveyed d (tableWith known (tableOf (now directory) (now guide))) (part (now i) (f .body) (f .«body_end»)) (now starts) (now marks) survey) ⌝ }
     ensures { λ r. ⌜ Wrote (text.response (now (i .entry)) date time control) r (now (out .entry)) (now (out .exit)) ⌝ }
 {
     let gs = sets::part(i, f.gs, f.gs_end);
     let n = blocks::add_isa(out, 0, d, i, date, time, control);
     let n = blocks::add_gs(out, n, d, gs, date, time, control);
-    let n = add_transaction_set(out, n, i, d, f, directory, guide, known);
+    let n = add_transaction_set(
+        out,
+        n,
+        i,
+        d,
+        f,
+        directory,
+        guide,
+        known,
+        starts,
+        marks,
+        survey,
+    );
     let n = blocks::add_ge(out, n, d, 1, control);
     blocks::add_iea(out, n, d, 1, control)
 }
 
-// The response where it fits: it is measured on an empty part, and then written.
+// The response where it fits: the sets are looked at, and it is measured on an empty part and then written.
 fn respond(
     out: &mut [u8],
     i: &[u8],
@@ -272,6 +419,10 @@ fn respond(
     requires { ⌜ (d ≡ cutting.delimiters (now i)) × Answerable d (now i) f (now directory) (now guide) known ⌝ }
     ensures { λ r. ⌜ (r ≡ fitting (text.response (now (i .entry)) date time control) (length (now (out .entry)))) × (now (out .exit) ≡ buffer r (text.response (now (i .entry)) date time control) (now (out .entry))) ⌝ }
 {
+    let mut starts: [u32; MOST_SETS] = [0; MOST_SETS];
+    let mut marks: [u8; MOST_SETS] = [0; MOST_SETS];
+    let body = sets::part(i, f.body, f.body_end);
+    let survey = survey_sets(body, d, directory, guide, known, &mut starts, &mut marks);
     let needed = put_response(
         &mut out[0..0],
         i,
@@ -280,6 +431,9 @@ fn respond(
         directory,
         guide,
         known,
+        &starts,
+        &marks,
+        survey,
         date,
         time,
         control,
@@ -287,7 +441,21 @@ fn respond(
     if out.len() < needed {
         return Answer::TooLong(needed);
     }
-    Answer::Written(put_response(out, i, d, f, directory, guide, known, date, time, control))
+    Answer::Written(put_response(
+        out,
+        i,
+        d,
+        f,
+        directory,
+        guide,
+        known,
+        &starts,
+        &marks,
+        survey,
+        date,
+        time,
+        control,
+    ))
 }
 
 // The answer to a sound interchange, by the table of the group's edition.

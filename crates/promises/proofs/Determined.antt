@@ -47,7 +47,8 @@ use Rattle.sets.proofs.next_set.Reads as sets-next-set
 use Rattle.sets.proofs.part.Reads as sets-part
 use Rattle.sets.proofs.set_refusal.Reads as sets-set-refusal
 use Rattle.sets.proofs.control_at.Reads as sets-control-at
-use Rattle.sets.proofs.is_repeated.Reads as sets-is-repeated
+use Rattle.register.proofs.bucket_of.Reads as register-bucket-of
+use Rattle.register.proofs.is_repeated.Reads as register-is-repeated
 use Rattle.refusals.proofs.check.Reads as refusals-check
 use Rattle.verdicts.proofs.Codes.none.Reads as verdicts-Codes-none
 use Rattle.verdicts.proofs.Codes.with.Reads as verdicts-Codes-with
@@ -265,8 +266,12 @@ sets-set-refusal-once κs a r₁ r₂ s₁ s₂ p q = p ∙ sym q
 sets-control-at-once : Once sets-control-at.Post (λ κs r s. now r)
 sets-control-at-once κs a r₁ r₂ s₁ s₂ p q = p ∙ sym q
 
-sets-is-repeated-once : Once sets-is-repeated.Post (λ κs r s. r)
-sets-is-repeated-once κs a r₁ r₂ s₁ s₂ p q = p ∙ sym q
+-- register
+register-bucket-of-once : Once register-bucket-of.Post (λ κs r s. r)
+register-bucket-of-once κs a r₁ r₂ s₁ s₂ p q = p ∙ sym q
+
+register-is-repeated-once : Once register-is-repeated.Post (λ κs r s. r)
+register-is-repeated-once κs a r₁ r₂ s₁ s₂ p q = p ∙ sym q
 
 -- refusals
 refusals-check-once : Once refusals-check.Post (λ κs r s. r)

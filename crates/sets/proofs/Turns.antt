@@ -1,22 +1,21 @@
--- What one turn of each loop does: of the search for a set's end, and of the search for an earlier number.
+-- What one turn of the search for a set's end does, and the number of a header.
 use mathlib.Core.Path.{_≡_, refl}
-use mathlib.Core.Bool.{Bool, true, false, _||_}
+use mathlib.Core.Bool.{Bool, true, false}
 use mathlib.Core.List.{List, _∷_}
 use Prim.Native.Nat.{ℕ, _+_, _-_, _<_, _≤_}
-use native.Mathlib.Numerals.{add-one}
 use native.Mathlib.Omega.{arith}
 use borrow.Author.Tests.{ltb-true, ltb-false}
 use lib.Dec.{ltb}
-use lib.ListN.{length, take, drop, getD, length-take, length-drop, drop-of-length-le}
-use lib.Seq.{length-take-le, take-nil, drop-cons, getD-take}
-use Rattle.rules.specs.Base.{Bytes, same, any, member, if_then_else_}
+use lib.ListN.{length, take, drop, length-drop, drop-of-length-le}
+use lib.Seq.{length-take-le, take-nil}
+use Rattle.rules.specs.Base.{Bytes, if_then_else_}
 use Rattle.rules.specs.Cutting.{field, split, pieces}
 use Rattle.rules.specs.Sets.{isST, isSE}
 use Rattle.rules.specs.declared.Delimiters.{Delimiters}
 use Rattle.text.specs.Text.{indexOf}
 use Rattle.text.proofs.Search.{find-end}
 use Rattle.segments.proofs.Pieces.{pieces-at, pieces-none, segments-at, segments-none}
-use Rattle.sets.specs.Places.{closedAt, unclosedAt, setFrom, setAt, controlAt, controlsAt}
+use Rattle.sets.specs.Places.{closedAt, unclosedAt, setFrom, setAt, controlAt}
 
 from-cons : (e header at : ℕ) (p : Bytes) (ps : List Bytes) → setFrom e header at (p ∷ ps)
     ≡ (if isSE (split e p) then closedAt header at (at + length p + 1)
@@ -64,22 +63,3 @@ control-is d s at end q = go (ltb at (length s)) refl
     go false c =
         let past = ltb-false at (length s) c in
         rw (segments-none d s at past, drop-of-length-le s {i = at} past, take-nil (end - at))
-
--- 3. The number at the k-th of the first n places is the same as q says, and the rest decides.
-module _ (d : Delimiters) (s control : Bytes) (starts : List ℕ) (n k : ℕ) where
-  pub member-step : (q : Bool) → k < n → k < length starts → same control (controlAt d s (getD starts k 0)) ≡ q
-      → member control (controlsAt d s (drop k (take n starts))) ≡ q || member control (controlsAt d s (drop (k + 1) (take n starts)))
-  unfolding controlsAt any
-  member-step q h h′ e =
-      let within : k < length (take n starts) = simp length-take (omega arith) in
-      rw (add-one, drop-cons (take n starts) k 0 within, getD-take n starts k 0 h, e)
-
-  member-end : length (take n starts) ≤ k → member control (controlsAt d s (drop k (take n starts))) ≡ false
-  unfolding controlsAt any
-  member-end h = rw (drop-of-length-le (take n starts) {i = k} h)
-
-  pub member-all : n ≤ k → member control (controlsAt d s (drop k (take n starts))) ≡ false
-  member-all h = member-end (simp length-take (omega arith))
-
-  pub member-past : length starts ≤ k → member control (controlsAt d s (drop k (take n starts))) ≡ false
-  member-past h = member-end (simp length-take (omega arith))

@@ -2,10 +2,9 @@
 ghost use mathlib.Core.Path.{_≡_};
 ghost use Prim.Native.Nat.{_-_};
 ghost use lib.ListN.{take, drop};
-ghost use Rattle.rules.specs.Base.{member};
 ghost use Rattle.rules.specs.Cutting as cutting;
 ghost use Rattle.rules.specs.Refusals.{goodST};
-ghost use Rattle.sets.specs.Places.{closedAt, unclosedAt, setAt, controlAt, controlsAt};
+ghost use Rattle.sets.specs.Places.{closedAt, unclosedAt, setAt, controlAt};
 ghost use Rattle.sets.specs.Groups.{setRefusal};
 use rules::Delimiters;
 
@@ -121,29 +120,4 @@ pub fn control_at(body: &[u8], d: Delimiters, at: usize) -> &[u8]
 {
     let end = text::find(body, at, d.terminator);
     segments::field(part(body, at, end), d.element, 2)
-}
-
-// Whether one of the first `count` sets, whose headers start at these places, has the ST02 `control`.
-pub fn is_repeated(body: &[u8], d: Delimiters, starts: &[u32], count: usize, control: &[u8]) -> bool
-    ensures { λ r. ⌜ r ≡ member (now (control .entry)) (controlsAt d (now (body .entry)) (take count (now (starts .entry)))) ⌝ }
-{
-    let mut found = false;
-    let mut k = 0;
-    'sets: while k < starts.len() && k < count {
-        let earlier = control_at(body, d, starts[k] as usize);
-        k += 1;
-        if earlier.len() != control.len() {
-            continue 'sets;
-        }
-        let mut i = 0;
-        while i < control.len() {
-            if control[i] != earlier[i] {
-                continue 'sets;
-            }
-            i += 1;
-        }
-        found = true;
-        break 'sets;
-    }
-    found
 }

@@ -1,44 +1,34 @@
--- `acknowledgment::put_block` meets its contract: the parts of the set at its place, and what is written of them.
-use mathlib.Core.Path.{_∙_}
-use mathlib.Core.Logic.{⊎-elim}
-use native.Mathlib.Nat.{sub-zero}
-use native.Mathlib.Omega.{arith}
+-- `acknowledgment::put_block` meets its contract: the mark of a set decides how its block is written.
+use Rattle.acknowledgment.proofs.Reports.{mark-block, mark-repeats}
 use borrow.Author.Needs.{needs}
-use Rattle.verdicts.proofs.Collected.{Held, collected-held}
-use Rattle.acknowledgment.proofs.Blocks.{parts-at, block-of}
 use Rattle.acknowledgment.proofs.put_block.Statement.{statement}
 use Rattle.acknowledgment.proofs.put_block.Tie as tie
 
-part-add-ak5-end : tie.Need-part-add-ak5-end
-part-add-ak5-end c =
-    let codes = c .before .before .before in
-    let held : Held (codes .set-codes .result) = rw (codes .set-codes .ensures) (collected-held _) in
-    omega arith
+put-accepted-requires : tie.Need-put-accepted-requires
+put-accepted-requires c κs = search needs
+
+same-length : tie.Need-same-length
+same-length c = search needs
 
 returns : tie.Need-returns
-returns c =
-    let ak5 = c .before .before .before in
-    let codes = ak5 .before .before .before .before .before in
-    let count = codes .before .before .before .before in
-    let notes = count .before .before .before in
-    let ak2 = notes .before .before .before .before in
-    let test = ak2 .before .before in
-    let trailer = test .before in
-    let header = trailer .before .before in
-    let set = header .before in
-    let entry = set .before .before .before .before in
-    block-of
-    (parts-at (entry .pre .0) (omega (arith, entry .good .1 .0)) (set .part .ensures) (header .part2 .ensures) (trailer .part3 .ensures))
-    _
-    (entry .pre .1)
-    _
-    (entry .args .known)
-    (⊎-elim (λ w. rw (w .0 .taken, ← w .1 .ensures) (w .3 ∙ w .2 .ensures)) (λ w. rw (w .0 .left) (w .1 ∙ w .0 .left)) (test .if1 .came))
-    (ak2 .add-ak2 .ensures)
-    (notes .add-notes .ensures)
-    (rw (count .segment-count .ensures, codes .before .is-repeated .ensures, codes .before .before .field2 .ensures) at (codes .set-codes .ensures))
-    (rw sub-zero at (ak5 .add-ak5 .ensures))
-    (c .joined .ensures)
+returns c = λ earlier m. rw (mark-block _ _ _ _ earlier m (c .before .before .before .before .if1 .taken)) (c .before .before .put-accepted .ensures)
+
+put-rejected-requires : tie.Need-put-rejected-requires
+put-rejected-requires c κs = search needs
+
+same-length-2 : tie.Need-same-length-2
+same-length-2 c = search needs
+
+returns-2 : tie.Need-returns-2
+returns-2 c = λ earlier m. c .before .before .put-rejected .ensures earlier (mark-repeats _ _ m)
 
 pub put-block-spec : {M : Type 1} → statement M
-put-block-spec = tie.close (tie.spec (λ c κs. search needs) (λ c κs. search needs) (λ c. search needs) (λ c κs. search needs) (λ c κs. search needs) (λ c κs. search needs) (λ c κs. search needs) (λ c κs. search needs) (λ c κs. search needs) (λ c κs. search needs) (λ c κs. search needs) (λ c κs. search needs) (λ c. search needs) (λ c. search needs) part-add-ak5-end (λ c κs. search needs) (λ c κs. search needs) (λ c. search needs) returns)
+put-block-spec =
+    tie.close
+    (tie.spec
+    put-accepted-requires
+    same-length
+    returns
+    put-rejected-requires
+    same-length-2
+    returns-2)

@@ -1,7 +1,6 @@
 -- `acknowledgment::put_response` meets its contract: a row of pieces from ISA to IEA.
-use borrow.Author.Needs.{needs}
-use Rattle.writing.proofs.Laws.{stays}
 use Rattle.acknowledgment.proofs.Responses.{response-made}
+use borrow.Author.Needs.{needs}
 use Rattle.acknowledgment.proofs.put_response.Statement.{statement}
 use Rattle.acknowledgment.proofs.put_response.Tie as tie
 
@@ -12,11 +11,19 @@ returns c =
     let transaction = ge .before .before .before .before in
     let gs = transaction .before .before .before .before in
     let isa = gs .before .before .before .before in
-    let start = isa .before .before .before .before .before in
-    response-made _ _ _ (start .pre .0) (start .pre .1 .frame) (isa .before .before .part .ensures) (isa .add-isa .ensures) (gs .add-gs .ensures) (transaction .add-transaction-set .ensures)
+    let entry = isa .before .before .before .before .before .before .before in
+    response-made _ _ _ (entry .pre .0) (entry .pre .1 .0 .frame) (isa .before .before .part .ensures) (isa .add-isa .ensures) (gs .add-gs .ensures) (transaction .add-transaction-set .ensures)
     (ge .add-ge .ensures) (iea .add-iea .ensures)
 
 pub put-response-spec : {M : Type 1} → statement M
 put-response-spec =
     tie.close
-    (tie.spec (λ c κs. search needs) (λ c κs. search needs) (λ c κs. search needs) (λ c κs. search needs) (λ c κs. search needs) (λ c κs. search needs) (λ c. stays (returns c)) returns)
+    (tie.spec
+    (λ c κs. search needs)
+    (λ c κs. search needs)
+    (λ c κs. search needs)
+    (λ c κs. search needs)
+    (λ c κs. search needs)
+    (λ c κs. search needs)
+    (λ c. search needs)
+    returns)

@@ -1,57 +1,52 @@
 -- `acknowledgment::put_sets` meets its contract: the blocks of the sets that are left are still owed.
-use borrow.Author.Needs.{needs}
-use mathlib.Core.Logic.{⊎-elim}
-use Prim.Native.Nat.{ℕ, _+_, _-_, _<_}
-use native.Mathlib.Omega.{arith}
-use lib.ListN.{length, length-replicate}
+use Prim.Native.Nat.{_-_, _≤_}
+use lib.ListN.{take, getD}
 use Rattle.rules.specs.Tables.{tableOf}
-use Rattle.sets.proofs.Sets.{SetIs, set-next}
 use Rattle.acknowledgment.specs.Writers.{tableWith}
-use Rattle.acknowledgment.proofs.Turns.{Sofar, sofar-start, sofar-room, sofar-turn, sofar-end}
+use Rattle.acknowledgment.specs.Surveys.{reports, Seen}
+use Rattle.acknowledgment.proofs.Turns.{Sofar, sofar-start, sofar-turn, sofar-end, seen-set, seen-next}
+use native.Mathlib.Omega.{arith}
+use borrow.Author.Needs.{needs}
 use Rattle.acknowledgment.proofs.put_sets.Statement.{statement}
 use Rattle.acknowledgment.proofs.put_sets.Tie as tie
 
 abbrev Inv-loop : tie.InvT-loop
-Inv-loop out₀ body d directory guide known starts₀ n₀ segments₀ sets₀ accepted₀ at₀ out starts n segments sets accepted at =
-    Sofar d (tableWith known (tableOf directory guide)) body out₀ out starts n segments sets accepted at
+Inv-loop out₀ body d directory guide known starts marks survey n₀ segments₀ k₀ out n segments k =
+    (Sofar d (reports d (tableWith known (tableOf directory guide)) body) out₀ out n segments k) × (k ≤ survey .sets)
 
 abbrev μ-loop : tie.MeasureT-loop
-μ-loop out₀ body d directory guide known starts₀ n₀ segments₀ sets₀ accepted₀ at₀ out starts n segments sets accepted at =
-    length body + 1 - at
+μ-loop out₀ body d directory guide known starts marks survey n₀ segments₀ k₀ out n segments k = survey .sets - k
 
 loop-holds : tie.Need-loop-holds Inv-loop μ-loop
-loop-holds c = let p = c .before .before .pre in sofar-start _ _ _ _ _ (p .0) (p .1 .0) (length-replicate {A = ℕ} 5462 0) (omega arith)
+loop-holds c = (sofar-start _ _ _ (omega arith), omega arith)
 
--- the set at the place
-abbrev IsSet : tie.After-next-set Inv-loop μ-loop → Type 0
-IsSet c =
-    let a = c .before .before .before .before .before .args in
-    SetIs (a .d) (a .body .now) (c .before .before .loop .at) (c .next-set .result)
+-- set k, as surveyed
+abbrev IsSeen : tie.Then1 Inv-loop μ-loop → Type 0
+IsSeen c =
+    let a = c .before .before .before .before .before .before .before .args in
+    let k = c .before .before .loop .k in
+    Seen (a .d) (tableWith (a .known) (tableOf (a .directory .now) (a .guide .now))) (a .body .now) (take k (a .starts .now)) k (getD (a .starts .now) k 0) (getD (a .marks .now) k 0)
 
-set : (c : tie.After-next-set Inv-loop μ-loop) → IsSet c
-set c = set-next _ _ _ _ (c .before .loop-test .taken) (c .next-set .ensures) (c .before .before .loop .inv .clean)
+seen : (c : tie.Then1 Inv-loop μ-loop) → IsSeen c
+seen c = c .before .before .before .before .before .before .before .pre .0 .seen _ (c .if1 .taken)
+
+cast-at : tie.Need-cast-at Inv-loop μ-loop
+cast-at c = omega (arith, c .shared-slice-known4 .given (c .before .before .before .loop .k))
 
 put-block-requires : tie.Need-put-block-requires Inv-loop μ-loop
-put-block-requires c κs = (set (c .before .before .before), c .before .before .before .before .before .before .before .before .pre .1 .1)
-
--- there is a place left to store where it starts
-room : (c : tie.After-joined2 Inv-loop μ-loop) → c .before .before .before .before .before .before .before .before .before .before .loop .sets < 5461
-room c = let i = c .before .before .before .before .before .before .before .before in sofar-room (i .before .before .loop .inv) (set i)
-
-loop-less : tie.Need-loop-less Inv-loop μ-loop
-loop-less c = omega (arith, set (c .before .before .before .before .before .before .before .before .before) .onward)
+put-block-requires c κs = let s = seen (c .before .before .before .before) in (s .inside, (seen-set s, c .before .before .before .before .before .before .before .before .before .before .before .pre .1))
 
 loop-again : tie.Need-loop-again Inv-loop μ-loop
 loop-again c =
-    let j = c .before .before in
+    let j = c .before in
     let p = j .before .before .before in
     let e = p .before .before .before in
-    let i = e .before in
-    sofar-turn (i .before .before .loop .inv) (set i) (e .clipped .ensures) (p .put-block .ensures) (j .joined .ensures) (c .before .joined2 .ensures)
-    (⊎-elim (λ w. rw (w .0 .taken) (w .1)) (λ w. rw (w .0 .left) (w .1)) (c .if1 .came))
+    let i = e .before .before in
+    let s = seen i in
+    (sofar-turn (i .before .before .loop .inv .0) (seen-next s) (e .clipped .ensures) (p .put-block .ensures _ (s .marked)) (j .joined .ensures) (c .joined2 .ensures), omega arith)
 
 returns : tie.Need-returns Inv-loop μ-loop
-returns c = sofar-end (c .before .loop .inv) (c .loop-test .left)
+returns c = let all = c .before .before .before .before .before .before .before .pre .0 in sofar-end (c .before .before .loop .inv .0) (omega (arith, all .received))
 
 pub put-sets-spec : {M : Type 1} → statement M
 put-sets-spec =
@@ -60,7 +55,9 @@ put-sets-spec =
     Inv-loop
     μ-loop
     loop-holds
-    (λ c κs. search needs)
+    (λ c. search needs)
+    (λ c. search needs)
+    cast-at
     (λ c κs. search needs)
     (λ c. search needs)
     (λ c. search needs)
@@ -69,12 +66,8 @@ put-sets-spec =
     put-block-requires
     (λ c κs. search needs)
     (λ c κs. search needs)
-    (λ c. omega (arith, room (c .before)))
     (λ c. search needs)
-    (λ c. omega (arith, room (c .before)))
-    (λ c. omega (arith, room (c .before)))
-    (λ c. omega (arith, room (c .before)))
-    loop-less
+    (λ c. search needs)
     loop-again
     (λ c. search needs)
     returns)
