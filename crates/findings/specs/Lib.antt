@@ -1,3 +1,4 @@
 pub mod Events
 pub mod Steps
 pub mod Left
+pub mod Turns

@@ -10,6 +10,7 @@ ghost use Rattle.rules.specs.Cutting as cutting;
 ghost use Rattle.rules.specs.Tables as law;
 ghost use Rattle.findings.specs.Steps as steps;
 ghost use Rattle.findings.specs.Left as rest;
+ghost use Rattle.findings.specs.Turns as turns;
 ghost use Rattle.findings.specs.declared.Standing.the-variants as standing;
 ghost use Rattle.findings.specs.declared.Phase.the-variants as phase;
 use rules::Delimiters;
@@ -49,6 +50,12 @@ pub enum Standing {
     Before(usize),
     Again,
     Later(usize),
+}
+
+// What a segment comes to before its elements are read: a note, or none and then the row of its entry and how often that is used.
+pub enum Turn {
+    Noted,
+    Quiet(usize, usize),
 }
 
 // What is told of one segment, an AK3: its codes are its own, where that is not 0, and 8, where it is faulty.
@@ -208,11 +215,18 @@ fn stayed(w: Walk, end: usize, own: u8, check: usize) -> Walk
     }
 }
 
-// The code of a use of the entry in row k: 5 beyond its maximum.
+// A use of the entry in row k is beyond its maximum.
+fn is_over(guide: &[[u16; 6]], k: usize, used: usize) -> bool
+    ensures { λ r. ⌜ r ≡ ltb (law.column (getD (now (guide .entry)) k []) 5) used ⌝ }
+{
+    (tables::number(guide, k, MOST) as usize) < used
+}
+
+// The code of a use of the entry in row k.
 fn use_code(guide: &[[u16; 6]], k: usize, used: usize) -> u8
     ensures { λ r. ⌜ r ≡ (if ltb (law.column (getD (now (guide .entry)) k []) 5) used then 5 else 0) ⌝ }
 {
-    if (tables::number(guide, k, MOST) as usize) < used {
+    if is_over(guide, k, used) {
         return 5;
     }
     0
@@ -371,16 +385,6 @@ fn next_place(k: usize, n: usize, stage: usize) -> Phase
     Phase::Place(k + 1, bumped(n), 0)
 }
 
-// A finding, where there is a code.
-fn found(f: Finding, w: Walk) -> Step
-    ensures { λ r. ⌜ r ≡ steps.toldOf f w ⌝ }
-{
-    if f.code == 0 {
-        return Step::Quiet(w);
-    }
-    Step::Element(f, w)
-}
-
 // The next code of place n by the element of row k.
 fn element(
     set: &[u8],
@@ -395,11 +399,12 @@ fn element(
     ensures { λ r. ⌜ r ≡ steps.toldOf (record { place = n; reference = law.column (getD (now (guide .entry)) k []) 1; code = steps.codeAt (now (set .entry)) d (now (guide .entry)) w k n stage }) (steps.to w (steps.nextPlace k n stage)) ⌝ }
 {
     let code = elements::code_at(part(set, w.start, w.end), d, guide, w.check, k, n, stage);
+    let onward = to(w, next_place(k, n, stage));
+    if code == 0 {
+        return Step::Quiet(onward);
+    }
     let reference = tables::number(guide, k, REFERENCE);
-    found(
-        Finding::new(n, reference, code),
-        to(w, next_place(k, n, stage)),
-    )
+    Step::Element(Finding::new(n, reference, code), onward)
 }
 
 // Code 3 where the segment in hand has an element at place n, beyond its rows.
@@ -408,7 +413,7 @@ fn surplus(set: &[u8], d: Delimiters, w: Walk, n: usize) -> Step
 {
     let onward = to(w, Phase::Read);
     if n < segments::field_count(part(set, w.start, w.end), d.element) {
-        return found(Finding::new(n, 0, 3), onward);
+        return Step::Element(Finding::new(n, 0, 3), onward);
     }
     Step::Quiet(onward)
 }
@@ -467,6 +472,42 @@ pub fn next(
     }
 }
 
+// One more use of the entry in row k.
+fn again(guide: &[[u16; 6]], k: usize, used: usize) -> Turn
+    ensures { λ r. ⌜ r ≡ turns.usedAgain (now (guide .entry)) k used ⌝ }
+{
+    if is_over(guide, k, used) {
+        return Turn::Noted;
+    }
+    Turn::Quiet(k, used)
+}
+
+// What a segment with this id comes to, at the present entry and its uses.
+fn turn_of(id: &[u8], directory: &[[u8; 3]], guide: &[[u16; 6]], entry: usize, used: usize) -> Turn
+    ensures { λ r. ⌜ r ≡ turns.turnOf (now (directory .entry)) (now (guide .entry)) entry used (now (id .entry)) ⌝ }
+{
+    if !tables::is_known(id, directory) {
+        return Turn::Noted;
+    }
+    if tables::is_entry(guide, entry, id) {
+        return again(guide, entry, bumped(used));
+    }
+    let next = tables::next_in_order(guide, bumped(entry), id);
+    if next < guide.len() {
+        return Turn::Quiet(next, 1);
+    }
+    Turn::Noted
+}
+
+// A missing trailer passes over a mandatory segment from row k on.
+fn passes_any(guide: &[[u16; 6]], k: usize) -> bool
+    ensures { λ r. ⌜ r ≡ turns.passesAny (now (guide .entry)) k ⌝ }
+{
+    let last = tables::reach(guide, k, &rules::SE);
+    let missing = tables::next_mandatory(guide, k, last);
+    missing < last && missing < guide.len()
+}
+
 // The walk of a set tells anything of it.
 pub fn is_noted(
     set: &[u8],
@@ -477,21 +518,29 @@ pub fn is_noted(
 ) -> bool
     ensures { λ r. ⌜ r ≡ not (null (rest.events (rest.left (now (set .entry)) d (now (directory .entry)) (now (guide .entry)) closed steps.start))) ⌝ }
 {
-    let mut w = start();
-    loop {
-        match next(set, d, directory, guide, closed, w) {
-            Step::Quiet(v) => {
-                w = v;
-            }
-            Step::Segment(_, _) => {
+    let mut at = 0;
+    let mut entry = 0;
+    let mut used = 0;
+    while at < set.len() {
+        let end = text::find(set, at, d.terminator);
+        let segment = &set[at..end];
+        let id = segments::id(segment, d.element);
+        match turn_of(id, directory, guide, entry, used) {
+            Turn::Noted => {
                 return true;
             }
-            Step::Element(_, _) => {
-                return true;
-            }
-            Step::Done => {
-                return false;
+            Turn::Quiet(k, uses) => {
+                entry = k;
+                used = uses;
             }
         }
+        if !elements::is_clean(segment, d, guide, entry) {
+            return true;
+        }
+        at = end + 1;
     }
+    if closed {
+        return false;
+    }
+    passes_any(guide, bumped(entry))
 }

@@ -145,7 +145,7 @@ byte-at [] (suc i) e = lit< tt
 byte-at (x ∷ xs) zero e = ltb-true x 256 (and-left (isByte x) (all isByte xs) e)
 byte-at (x ∷ xs) (suc i) e = byte-at xs i (and-right (isByte x) (all isByte xs) e)
 
-three : (xs : List ℕ) → filled (getD xs 0 0 ∷ getD xs 1 0 ∷ getD xs 2 0 ∷ []) ≡ filled (take 3 xs)
+pub three : (xs : List ℕ) → filled (getD xs 0 0 ∷ getD xs 1 0 ∷ getD xs 2 0 ∷ []) ≡ filled (take 3 xs)
 unfolding filled
 three [] = refl
 three (a ∷ []) = refl

@@ -62,6 +62,13 @@ reachFrom rows k id = nextWhere (isEntryRow id) rows k
 unfoldable pub nextMandatory : Guide → ℕ → ℕ → ℕ
 nextMandatory rows k end = nextWhere isMandatoryRow (take end rows) k
 
+-- the first segment row from k on with this id, where no mandatory one stands before it; the number of rows where one does
+unfoldable pub nextInOrder : Guide → ℕ → Bytes → ℕ
+nextInOrder rows k id =
+    let r = reachFrom rows k id in
+    let m = nextMandatory rows k r in
+    if ltb m r && ltb m (length rows) then length rows else r
+
 -- the id of row k by value, of a number above 255 its low byte, and the bytes that such an id stands for
 unfoldable pub idAt : Guide → ℕ → SegmentId
 idAt rows k = let r = getD rows k [] in record {

@@ -6,7 +6,7 @@ ghost use Prim.Native.Nat.{_%_};
 ghost use lib.ListN.{getD, drop};
 ghost use Rattle.rules.specs.Base.{same, member, null};
 ghost use Rattle.rules.specs.Tables.{isRow, filled, kindOf, relationOf, idsIn};
-ghost use Rattle.tables.specs.Reading.{entryAt, codesAt, nextWhere, idIn, isEntryRow, isMandatoryRow, nextEntry, reachFrom, nextMandatory, idAt};
+ghost use Rattle.tables.specs.Reading.{entryAt, codesAt, nextWhere, idIn, isEntryRow, isMandatoryRow, nextEntry, reachFrom, nextMandatory, nextInOrder, idAt};
 use rules::Kind;
 use rules::Relation;
 
@@ -252,6 +252,25 @@ pub fn next_mandatory(guide: &[[u16; 6]], from: usize, end: usize) -> usize
     mandatory_from(guide, from)
 }
 
+// The first segment with this id from row `from` on, where no mandatory one stands before it; the number of rows where one does or
+// there is none, and `from` where that is past the end.
+pub fn next_in_order(guide: &[[u16; 6]], from: usize, id: &[u8]) -> usize
+    ensures { λ r. ⌜ r ≡ nextInOrder (now (guide .entry)) from (now (id .entry)) ⌝ }
+{
+    let mut k = from;
+    while k < guide.len() {
+        let row = guide[k];
+        if is_entry_row(row, id) {
+            return k;
+        }
+        if is_mandatory_row(row) {
+            return guide.len();
+        }
+        k += 1;
+    }
+    k
+}
+
 // Code values stand from row k on.
 pub fn has_values(guide: &[[u16; 6]], k: usize) -> bool
     ensures { λ r. ⌜ r ≡ not (null (codesAt (now (guide .entry)) k)) ⌝ }
@@ -293,8 +312,8 @@ pub fn id_at(guide: &[[u16; 6]], k: usize) -> SegmentId
 fn is_named(row: [u8; 3], id: &[u8]) -> bool
     ensures { λ r. ⌜ r ≡ same (now (id .entry)) (filled row) ⌝ }
 {
-    let end = text::find(&row, 0, 0);
-    text::same_bytes(id, &row[..end])
+    let numbers = [row[0] as u16, row[1] as u16, row[2] as u16];
+    spells(&numbers, id)
 }
 
 // The id is one of the directory.

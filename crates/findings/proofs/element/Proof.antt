@@ -1,4 +1,5 @@
 -- `findings::element` meets its contract.
+use borrow.Author.Tests.{eq-eqb, ne-eqb}
 use Rattle.findings.specs.Steps as steps
 use borrow.Author.Needs.{needs}
 use Rattle.findings.proofs.element.Statement.{statement}
@@ -10,24 +11,25 @@ part-requires c κs = search needs
 code-at-requires : tie.Need-code-at-requires
 code-at-requires c κs = search needs
 
-number-requires : tie.Need-number-requires
-number-requires c κs = search needs
-
-new-requires : tie.Need-new-requires
-new-requires c κs = search needs
-
 next-place-requires : tie.Need-next-place-requires
 next-place-requires c κs = search needs
 
 to-requires : tie.Need-to-requires
 to-requires c κs = search needs
 
-found-requires : tie.Need-found-requires
-found-requires c κs = search needs
-
 returns : tie.Need-returns
 unfolding steps.codeAt
-returns c = rw (c .found .ensures, c .before .to .ensures, c .before .before .next-place .ensures, c .before .before .before .new .ensures, c .before .before .before .before .number .ensures, c .before .before .before .before .before .code-at .ensures, c .before .before .before .before .before .before .part .ensures)
+returns c = rw (← c .before .before .before .before .part .ensures, ← c .before .before .before .code-at .ensures, eq-eqb _ _ (c .if1 .taken), c .before .to .ensures, c .before .before .next-place .ensures)
+
+number-requires : tie.Need-number-requires
+number-requires c κs = search needs
+
+new-requires : tie.Need-new-requires
+new-requires c κs = search needs
+
+returns-2 : tie.Need-returns-2
+unfolding steps.codeAt
+returns-2 c = rw (← c .before .before .before .before .before .before .part .ensures, ← c .before .before .before .before .before .code-at .ensures, ne-eqb _ _ (c .before .before .if1 .left), c .new .ensures, c .before .number .ensures, c .before .before .before .to .ensures, c .before .before .before .before .next-place .ensures)
 
 pub element-spec : {M : Type 1} → statement M
 element-spec =
@@ -35,9 +37,9 @@ element-spec =
     (tie.spec
     part-requires
     code-at-requires
-    number-requires
-    new-requires
     next-place-requires
     to-requires
-    found-requires
-    returns)
+    returns
+    number-requires
+    new-requires
+    returns-2)

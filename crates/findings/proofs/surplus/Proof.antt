@@ -16,11 +16,8 @@ field-count-requires c κs = search needs
 new-requires : tie.Need-new-requires
 new-requires c κs = search needs
 
-found-requires : tie.Need-found-requires
-found-requires c κs = search needs
-
 returns : tie.Need-returns
-returns c = rw (← c .before .before .before .before .part .ensures, ← c .before .before .before .field-count .ensures, lt-ltb _ _ (c .before .before .if1 .taken), c .found .ensures, c .before .new .ensures, c .before .before .before .before .before .to .ensures)
+returns c = rw (← c .before .before .before .part .ensures, ← c .before .before .field-count .ensures, lt-ltb _ _ (c .before .if1 .taken), c .new .ensures, c .before .before .before .before .to .ensures)
 
 returns-2 : tie.Need-returns-2
 returns-2 c = rw (← c .before .before .part .ensures, ← c .before .field-count .ensures, le-ltb _ _ (c .if1 .left), c .before .before .before .to .ensures)
@@ -28,11 +25,4 @@ returns-2 c = rw (← c .before .before .part .ensures, ← c .before .field-cou
 pub surplus-spec : {M : Type 1} → statement M
 surplus-spec =
     tie.close
-    (tie.spec
-    to-requires
-    part-requires
-    field-count-requires
-    new-requires
-    found-requires
-    returns
-    returns-2)
+    (tie.spec to-requires part-requires field-count-requires new-requires returns returns-2)
