@@ -2,7 +2,7 @@
 ghost use mathlib.Core.Path.{_≡_};
 ghost use Prim.Native.Nat.{_+_};
 ghost use lib.ListN.{drop};
-ghost use Rattle.rules.specs.Cutting.{isNamed, pieces, split};
+ghost use Rattle.rules.specs.Cutting.{field, isNamed, pieces, split};
 ghost use Rattle.frame.specs.Places.{part, endOf, isEnvelopeName, inside, trailerAt, frameOf};
 use rules::Delimiters;
 use rules::GE;
@@ -37,20 +37,20 @@ struct Trailer {
     next: usize,
 }
 
-// The id is ISA, GS, GE or IEA.
-fn is_envelope_name(id: &[u8]) -> bool
-    ensures { λ r. ⌜ r ≡ isEnvelopeName (now (id .entry)) ⌝ }
+// The segment is ISA, GS, GE or IEA.
+fn is_of_envelope(s: &[u8], e: u8) -> bool
+    ensures { λ r. ⌜ r ≡ isEnvelopeName (field (split e (now (s .entry))) 0) ⌝ }
 {
-    if text::same_bytes(id, &ISA) {
+    if segments::is_named(s, e, &ISA) {
         return true;
     }
-    if text::same_bytes(id, &GS) {
+    if segments::is_named(s, e, &GS) {
         return true;
     }
-    if text::same_bytes(id, &GE) {
+    if segments::is_named(s, e, &GE) {
         return true;
     }
-    text::same_bytes(id, &IEA)
+    segments::is_named(s, e, &IEA)
 }
 
 // Where the first segment of the envelope from `from` on starts; past the end where there is none.
@@ -60,7 +60,7 @@ fn envelope_from(i: &[u8], from: usize, d: Delimiters) -> usize
     let mut at = from;
     while at < i.len() {
         let end = text::find(i, at, d.terminator);
-        if is_envelope_name(segments::id(&i[at..end], d.element)) {
+        if is_of_envelope(&i[at..end], d.element) {
             return at;
         }
         at = end + 1;

@@ -1,16 +1,16 @@
 -- The fields of a segment at a cursor: what a walk that goes through the elements once needs at each turn.
 use mathlib.Core.Path.{_≡_, refl, sym, ap, _∙_}
-use mathlib.Core.Bool.{Bool, true, false, not, false≢true}
+use mathlib.Core.Bool.{Bool, true, false, _&&_, not, false≢true}
 use mathlib.Core.List.{[], _∷_}
 use Prim.Native.Nat.{ℕ, suc, _+_, _-_, _<_, _≤_}
 use native.Mathlib.Nat.{add-zero, zero-lt-suc, le-trans}
 use native.Mathlib.Omega.{arith}
-use borrow.Author.Tests.{eq-eqb, ne-eqb, lt-ltb, le-ltb, ltb-true, ltb-false}
-use lib.Dec.{ltb}
+use borrow.Author.Tests.{eq-eqb, ne-eqb, eqb-true, eqb-false, lt-ltb, le-ltb, ltb-true, ltb-false}
+use lib.Dec.{eqb, ltb}
 use lib.ListN.{length, getD, take, drop, length-drop, drop-of-length-le, List·getD-eq-default}
 use lib.Seq.{drop-drop, getD-drop, take-nil}
-use Rattle.rules.specs.Base.{Bytes, null, if_then_else_}
-use Rattle.rules.specs.Cutting.{Segment, push, split, field}
+use Rattle.rules.specs.Base.{Bytes, same, null, if_then_else_}
+use Rattle.rules.specs.Cutting.{Segment, push, split, field, isNamed}
 use Rattle.rules.proofs.Cuts.{split-step, split-end, split-some}
 use Rattle.text.specs.Text.{indexOf}
 use Rattle.text.proofs.Loops.{left-cons}
@@ -126,6 +126,52 @@ module _ (e : ℕ) (s : Bytes) (i : ℕ) where
   pub count-end : length s ≤ i → length (split e (drop i s)) ≡ 1
   unfolding split
   count-end h = rw (drop-of-length-le s {i = i} h)
+
+-- 4. The id, byte by byte, against a name.
+module _ (e : ℕ) (s : Bytes) (i : ℕ) where
+  id-cut : i < length s → getD s i 0 ≡ e → field (split e (drop i s)) 0 ≡ []
+  unfolding split
+  id-cut h q = rw (left-cons s i h, eq-eqb (getD s i 0) e q)
+
+  id-kept : i < length s → (getD s i 0 ≡ e → ⊥) → field (split e (drop i s)) 0 ≡ getD s i 0 ∷ field (split e (drop (i + 1) s)) 0
+  unfolding split
+  id-kept h q = rw (left-cons s i h, ne-eqb (getD s i 0) e q) (pushed (split e (drop (i + 1) s)))
+    where
+      pushed : (ps : Segment) → field (push (getD s i 0) ps) 0 ≡ getD s i 0 ∷ field ps 0
+      pushed [] = refl
+      pushed (p ∷ ps) = refl
+
+  id-end : length s ≤ i → field (split e (drop i s)) 0 ≡ []
+  unfolding split
+  id-end h = rw (drop-of-length-le s {i = i} h)
+
+  module _ (name : Bytes) where
+    -- the name goes on
+    pub named-cut : i < length name → i < length s → getD s i 0 ≡ e → isNamed (drop i name) (split e (drop i s)) ≡ false
+    unfolding same
+    named-cut k h q = rw (left-cons name i k, id-cut h q)
+
+    pub named-short : i < length name → length s ≤ i → isNamed (drop i name) (split e (drop i s)) ≡ false
+    unfolding same
+    named-short k h = rw (left-cons name i k, id-end h)
+
+    pub named-step : (q : Bool) → i < length name → i < length s → (getD s i 0 ≡ e → ⊥) → eqb (getD s i 0) (getD name i 0) ≡ q
+        → isNamed (drop i name) (split e (drop i s)) ≡ q && isNamed (drop (i + 1) name) (split e (drop (i + 1) s))
+    unfolding same
+    named-step q k h n c = rw (left-cons name i k, id-kept h n, c)
+
+    -- the name ends
+    pub named-whole : length name ≤ i → length s ≤ i → isNamed (drop i name) (split e (drop i s)) ≡ true
+    unfolding same
+    named-whole k h = rw (drop-of-length-le name {i = i} k, id-end h)
+
+    pub named-ended : length name ≤ i → i < length s → isNamed (drop i name) (split e (drop i s)) ≡ eqb (getD s i 0) e
+    unfolding same
+    named-ended k h = rw (drop-of-length-le name {i = i} k) (go (eqb (getD s i 0) e) refl)
+      where
+        go : (c : Bool) → eqb (getD s i 0) e ≡ c → same (field (split e (drop i s)) 0) [] ≡ c
+        go true q = rw (id-cut h (eqb-true (getD s i 0) e q))
+        go false q = rw (id-kept h (eqb-false (getD s i 0) e q))
 
 pub present-length : (l : Bytes) → not (null l) ≡ ltb 0 (length l)
 present-length [] = refl

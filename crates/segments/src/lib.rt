@@ -11,14 +11,14 @@ pub fn field(s: &[u8], e: u8, n: usize) -> &[u8]
     let mut at = 0;
     let mut i = 0;
     while i < n {
-        let end = text::find(s, at, e);
+        let end = text::find_near(s, at, e);
         if s.len() <= end {
             return &s[0..0];
         }
         at = end + 1;
         i += 1;
     }
-    let end = text::find(s, at, e);
+    let end = text::find_near(s, at, e);
     &s[at..end]
 }
 
@@ -33,7 +33,24 @@ pub fn id(s: &[u8], e: u8) -> &[u8]
 pub fn is_named(s: &[u8], e: u8, name: &[u8]) -> bool
     ensures { λ r. ⌜ r ≡ cutting.isNamed (now (name .entry)) (cutting.split e (now (s .entry))) ⌝ }
 {
-    text::same_bytes(id(s, e), name)
+    let mut i = 0;
+    while i < name.len() {
+        if s.len() <= i {
+            return false;
+        }
+        // The id ends here, even where the name goes on with a separator.
+        if s[i] == e {
+            return false;
+        }
+        if s[i] != name[i] {
+            return false;
+        }
+        i += 1;
+    }
+    if s.len() <= i {
+        return true;
+    }
+    s[i] == e
 }
 
 // Field n is there and not empty.

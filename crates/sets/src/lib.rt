@@ -55,11 +55,11 @@ pub fn next_set(body: &[u8], d: Delimiters, at: usize) -> SetAt
     let mut next = header + 1;
     while next < body.len() {
         let end = text::find(body, next, d.terminator);
-        let id = segments::id(&body[next..end], d.element);
-        if text::same_bytes(id, &rules::SE) {
+        let segment = &body[next..end];
+        if segments::is_named(segment, d.element, &rules::SE) {
             return SetAt::with_trailer(header, next, end + 1);
         }
-        if text::same_bytes(id, &rules::ST) {
+        if segments::is_named(segment, d.element, &rules::ST) {
             return SetAt::without_trailer(header, next);
         }
         next = end + 1;

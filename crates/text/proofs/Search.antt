@@ -1,14 +1,16 @@
 -- The search for a byte: one turn of it, and where it ends.
 use Prim.Native.Nat.{ℕ, suc, _+_, _<_, _≤_, suc-le-suc}
-use mathlib.Core.Path.{_≡_}
+use mathlib.Core.Path.{_≡_, refl, sym, ap, _∙_}
 use mathlib.Core.Bool.{Bool, true, false}
-use mathlib.Core.List.{[], _∷_}
+use mathlib.Core.List.{[], _∷_, _++_}
 use native.Mathlib.Nat.{add-zero}
 use native.Mathlib.Omega.{arith}
 use borrow.Author.Tests.{eq-eqb, ne-eqb}
 use lib.Dec.{eqb}
-use lib.ListN.{length, getD, drop, drop-of-length-le, length-drop}
-use Rattle.rules.specs.Base.{Bytes, if_then_else_}
+use lib.ListN.{length, getD, take, drop, drop-of-length-le, length-drop, take-append-drop}
+use lib.Seq.{drop-drop, length-take-le}
+use Rattle.rules.specs.Base.{Bytes, any, if_then_else_}
+use Rattle.rules.proofs.Logic.{or-left, or-right}
 use Rattle.text.specs.Text.{indexOf}
 use Rattle.text.proofs.Loops.{left-cons}
 
@@ -24,6 +26,23 @@ module _ (b : ℕ) (s : Bytes) (i : ℕ) where
   pub index-none : length s ≤ i → i + indexOf b (drop i s) ≡ i
   unfolding indexOf
   index-none h = rw (drop-of-length-le s {i = i} h, add-zero)
+
+-- bytes without a b are passed over
+pub index-over : (b : ℕ) (xs ys : Bytes) → any (λ x. eqb x b) xs ≡ false → indexOf b (xs ++ ys) ≡ length xs + indexOf b ys
+unfolding indexOf any
+index-over b [] ys e = omega arith
+index-over b (x ∷ xs) ys e =
+    let o = or-left (eqb x b) (any (λ y. eqb y b) xs) e in
+    let r = index-over b xs ys (or-right (eqb x b) (any (λ y. eqb y b) xs) e) in
+    rw (o, r) (omega arith)
+
+pub index-past : (b : ℕ) (s : Bytes) (i n : ℕ) → i + n ≤ length s → any (λ x. eqb x b) (take n (drop i s)) ≡ false
+    → i + indexOf b (drop i s) ≡ i + n + indexOf b (drop (i + n) s)
+index-past b s i n h e =
+    let l = length-take-le n (drop i s) (omega (arith, length-drop i s)) in
+    let r : indexOf b (drop i s) ≡ n + indexOf b (drop (i + n) s) =
+    sym (ap (indexOf b) (take-append-drop n (drop i s))) ∙ index-over b (take n (drop i s)) (drop n (drop i s)) e ∙ rw (l, drop-drop n i s) in
+    omega arith
 
 pub index-le : (b : ℕ) (xs : Bytes) → indexOf b xs ≤ length xs
 unfolding indexOf

@@ -1,9 +1,10 @@
 // Leaves on bytes: searching, comparing, digits and the numbers that they stand for, dates, times, valid bytes.
 ghost use mathlib.Core.Path.{_≡_};
 ghost use mathlib.Core.Bool.{_||_};
-ghost use Prim.Native.Nat.{_+_};
-ghost use lib.ListN.{drop};
-ghost use Rattle.rules.specs.Base.{between, isDigit, isUpper, isUpperOrDigit, same, all};
+ghost use Prim.Native.Nat.{_+_, _≤_};
+ghost use lib.Dec.{eqb};
+ghost use lib.ListN.{length, take, drop};
+ghost use Rattle.rules.specs.Base.{between, isDigit, isUpper, isUpperOrDigit, same, all, any};
 ghost use Rattle.rules.specs.Cutting.{valid, text};
 ghost use Rattle.rules.specs.Numbers.{digits, isDay, isDate, isTime};
 ghost use Rattle.rules.specs.Elements as elements;
@@ -11,7 +12,8 @@ ghost use Rattle.text.specs.Text.{indexOf, upToTen};
 use rules::Delimiters;
 
 // The place of the first b from `from` on; the length where there is none, and `from` where that is past the end.
-pub fn find(s: &[u8], from: usize, b: u8) -> usize
+// Byte by byte: b is near, as the end of an element is.
+pub fn find_near(s: &[u8], from: usize, b: u8) -> usize
     ensures { λ r. ⌜ r ≡ from + indexOf b (drop from (now (s .entry))) ⌝ }
 {
     let mut i = from;
@@ -22,6 +24,35 @@ pub fn find(s: &[u8], from: usize, b: u8) -> usize
         i += 1;
     }
     i
+}
+
+// One of the eight bytes from i on is b; none is left uncompared, so that a machine can compare them at once.
+fn is_in_eight(s: &[u8], i: usize, b: u8) -> bool
+    requires { ⌜ i + 8 ≤ length (now s) ⌝ }
+    ensures { λ r. ⌜ r ≡ any (λ x. eqb x b) (take 8 (drop i (now (s .entry)))) ⌝ }
+{
+    (s[i] == b)
+        | (s[i + 1] == b)
+        | (s[i + 2] == b)
+        | (s[i + 3] == b)
+        | (s[i + 4] == b)
+        | (s[i + 5] == b)
+        | (s[i + 6] == b)
+        | (s[i + 7] == b)
+}
+
+// The same, eight bytes a turn: b is far, as the end of a segment is.
+pub fn find(s: &[u8], from: usize, b: u8) -> usize
+    ensures { λ r. ⌜ r ≡ from + indexOf b (drop from (now (s .entry))) ⌝ }
+{
+    let mut i = from;
+    while i < s.len() && 8 <= s.len() - i {
+        if is_in_eight(s, i, b) {
+            break;
+        }
+        i += 8;
+    }
+    find_near(s, i, b)
 }
 
 // Byte for byte the same.

@@ -1,10 +1,10 @@
 -- `frame::envelope_from` meets its contract.
-use mathlib.Core.Path.{_≡_, refl, sym, ap, _∙_}
+use mathlib.Core.Path.{_≡_, refl, sym, _∙_}
 use Prim.Native.Nat.{_+_, _-_}
 use lib.ListN.{length, drop}
 use Rattle.rules.specs.Cutting.{pieces}
 use Rattle.text.proofs.Search.{find-end}
-use Rattle.frame.specs.Places.{isEnvelopeName, inside}
+use Rattle.frame.specs.Places.{inside}
 use Rattle.frame.proofs.Places.{inside-here, inside-later, inside-none}
 use borrow.Author.Needs.{needs}
 use native.Mathlib.Omega.{arith}
@@ -23,32 +23,29 @@ loop-holds c = refl
 find-requires : tie.Need-find-requires Inv-loop μ-loop
 find-requires c κs = search needs
 
-sub-id : tie.Need-sub-id Inv-loop μ-loop
-sub-id c = search needs
+sub-is-of-envelope : tie.Need-sub-is-of-envelope Inv-loop μ-loop
+sub-is-of-envelope c = search needs
 
-part-id-start : tie.Need-part-id-start Inv-loop μ-loop
-part-id-start c = search needs
+part-is-of-envelope-start : tie.Need-part-is-of-envelope-start Inv-loop μ-loop
+part-is-of-envelope-start c = search needs
 
-part-id-end : tie.Need-part-id-end Inv-loop μ-loop
-part-id-end c = find-end _ _ _ _ (c .find .ensures) (c .before .loop-test .taken)
+part-is-of-envelope-end : tie.Need-part-is-of-envelope-end Inv-loop μ-loop
+part-is-of-envelope-end c = find-end _ _ _ _ (c .find .ensures) (c .before .loop-test .taken)
 
-id-requires : tie.Need-id-requires Inv-loop μ-loop
-id-requires c κs = search needs
-
-is-envelope-name-requires : tie.Need-is-envelope-name-requires Inv-loop μ-loop
-is-envelope-name-requires c κs = search needs
+is-of-envelope-requires : tie.Need-is-of-envelope-requires Inv-loop μ-loop
+is-of-envelope-requires c κs = search needs
 
 returns : tie.Need-returns Inv-loop μ-loop
-returns c = sym (c .before .before .before .before .before .before .loop .inv ∙ inside-here _ _ _ _ _ (c .before .before .before .before .before .loop-test .taken) (c .before .before .before .before .find .ensures) (ap isEnvelopeName (sym (c .before .before .id .ensures)) ∙ sym (c .before .is-envelope-name .ensures) ∙ c .if1 .taken))
+returns c = sym (c .before .before .before .before .before .loop .inv ∙ inside-here _ _ _ _ _ (c .before .before .before .before .loop-test .taken) (c .before .before .before .find .ensures) (sym (c .before .is-of-envelope .ensures) ∙ c .if1 .taken))
 
 add-at : tie.Need-add-at Inv-loop μ-loop
-add-at c = let within = find-end _ _ _ _ (c .before .before .before .before .find .ensures) (c .before .before .before .before .before .loop-test .taken) in omega arith
+add-at c = let within = find-end _ _ _ _ (c .before .before .before .find .ensures) (c .before .before .before .before .loop-test .taken) in omega arith
 
 loop-less : tie.Need-loop-less Inv-loop μ-loop
 loop-less c = search needs
 
 loop-again : tie.Need-loop-again Inv-loop μ-loop
-loop-again c = c .before .before .before .before .before .before .loop .inv ∙ inside-later _ _ _ _ _ (c .before .before .before .before .before .loop-test .taken) (c .before .before .before .before .find .ensures) (ap isEnvelopeName (sym (c .before .before .id .ensures)) ∙ sym (c .before .is-envelope-name .ensures) ∙ c .if1 .left)
+loop-again c = c .before .before .before .before .before .loop .inv ∙ inside-later _ _ _ _ _ (c .before .before .before .before .loop-test .taken) (c .before .before .before .find .ensures) (sym (c .before .is-of-envelope .ensures) ∙ c .if1 .left)
 
 returns-2 : tie.Need-returns-2 Inv-loop μ-loop
 returns-2 c = sym (c .before .loop .inv ∙ inside-none _ _ _ _ (c .loop-test .left))
@@ -61,11 +58,10 @@ envelope-from-spec =
     μ-loop
     loop-holds
     find-requires
-    sub-id
-    part-id-start
-    part-id-end
-    id-requires
-    is-envelope-name-requires
+    sub-is-of-envelope
+    part-is-of-envelope-start
+    part-is-of-envelope-end
+    is-of-envelope-requires
     returns
     add-at
     loop-less

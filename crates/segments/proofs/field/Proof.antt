@@ -19,8 +19,8 @@ abbrev μ-loop : tie.MeasureT-loop
 loop-holds : tie.Need-loop-holds Inv-loop μ-loop
 loop-holds c = (omega arith, omega arith, field-first)
 
-find-requires : tie.Need-find-requires Inv-loop μ-loop
-find-requires c κs = search needs
+find-near-requires : tie.Need-find-near-requires Inv-loop μ-loop
+find-near-requires c κs = search needs
 
 sub-result : tie.Need-sub-result Inv-loop μ-loop
 sub-result c = search needs
@@ -34,7 +34,7 @@ part-result-end c = search needs
 returns : tie.Need-returns Inv-loop μ-loop
 returns c =
     let start = c .before .before .before .before .before .before in
-    let next = field-next (c .before .before .before .before .loop .inv .2) (c .before .before .find .ensures) in
+    let next = field-next (c .before .before .before .before .loop .inv .2) (c .before .before .find-near .ensures) in
     sym (field-past next (omega arith) (start .args .n) (omega arith))
 
 add-at : tie.Need-add-at Inv-loop μ-loop
@@ -47,10 +47,10 @@ loop-less : tie.Need-loop-less Inv-loop μ-loop
 loop-less c = search needs
 
 loop-again : tie.Need-loop-again Inv-loop μ-loop
-loop-again c = (omega arith, omega arith, field-next (c .before .before .before .loop .inv .2) (c .before .find .ensures))
+loop-again c = (omega arith, omega arith, field-next (c .before .before .before .loop .inv .2) (c .before .find-near .ensures))
 
-find-requires-2 : tie.Need-find-requires-2 Inv-loop μ-loop
-find-requires-2 c κs = search needs
+find-near-requires-2 : tie.Need-find-near-requires-2 Inv-loop μ-loop
+find-near-requires-2 c κs = search needs
 
 sub-result-2 : tie.Need-sub-result-2 Inv-loop μ-loop
 sub-result-2 c = search needs
@@ -62,14 +62,14 @@ part-result-end-2 : tie.Need-part-result-end-2 Inv-loop μ-loop
 part-result-end-2 c =
     let start = c .before .before .before .before in
     let l = c .before .before .loop in
-    omega (arith, find-le (start .args .e) (start .args .s .now) (l .at) (l .inv .0), c .find2 .ensures)
+    omega (arith, find-le (start .args .e) (start .args .s .now) (l .at) (l .inv .0), c .find-near2 .ensures)
 
 returns-2 : tie.Need-returns-2 Inv-loop μ-loop
 returns-2 c =
     let start = c .before .before .before .before .before in
     let l = c .before .before .before .loop in
     let reached : start .args .n ≡ l .i = omega arith in
-    sym (ap (cutting.field (cutting.split (start .args .e) (start .args .s .now))) reached ∙ field-at (l .inv .2) (c .before .find2 .ensures))
+    sym (ap (cutting.field (cutting.split (start .args .e) (start .args .s .now))) reached ∙ field-at (l .inv .2) (c .before .find-near2 .ensures))
 
 pub field-spec : {M : Type 1} → statement M
 field-spec =
@@ -78,7 +78,7 @@ field-spec =
     Inv-loop
     μ-loop
     loop-holds
-    find-requires
+    find-near-requires
     sub-result
     part-result-start
     part-result-end
@@ -87,7 +87,7 @@ field-spec =
     add-i
     loop-less
     loop-again
-    find-requires-2
+    find-near-requires-2
     sub-result-2
     part-result-start-2
     part-result-end-2

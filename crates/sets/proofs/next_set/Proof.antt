@@ -1,10 +1,9 @@
 -- `sets::next_set` meets its contract: from where the set goes on, the pieces that are left decide its end.
 use borrow.Author.Needs.{needs}
-use mathlib.Core.Path.{_≡_, refl, sym, ap, _∙_}
+use mathlib.Core.Path.{_≡_, refl, sym, _∙_}
 use mathlib.Core.Bool.{true, false}
 use Prim.Native.Nat.{_+_, _-_, _≤_}
 use lib.ListN.{length, drop}
-use Rattle.rules.specs.Base.{Bytes, ascii, same}
 use Rattle.rules.specs.Cutting.{pieces}
 use Rattle.text.proofs.Search.{find-end}
 use Rattle.sets.specs.Places.{setAt, setFrom}
@@ -40,27 +39,24 @@ loop-holds c =
 find-requires-2 : tie.Need-find-requires-2 Inv-loop μ-loop
 find-requires-2 c κs = search needs
 
-sub-id : tie.Need-sub-id Inv-loop μ-loop
-sub-id c = search needs
+sub-segment : tie.Need-sub-segment Inv-loop μ-loop
+sub-segment c = search needs
 
-part-id-start : tie.Need-part-id-start Inv-loop μ-loop
-part-id-start c = search needs
+part-segment-start : tie.Need-part-segment-start Inv-loop μ-loop
+part-segment-start c = search needs
 
-part-id-end : tie.Need-part-id-end Inv-loop μ-loop
-part-id-end c = find-end _ _ _ _ (c .find2 .ensures) (c .before .loop-test .taken)
+part-segment-end : tie.Need-part-segment-end Inv-loop μ-loop
+part-segment-end c = find-end _ _ _ _ (c .find2 .ensures) (c .before .loop-test .taken)
 
-id-requires : tie.Need-id-requires Inv-loop μ-loop
-id-requires c κs = search needs
+slice-aggregate-is-named : tie.Need-slice-aggregate-is-named Inv-loop μ-loop
+slice-aggregate-is-named c = search needs
 
-slice-aggregate-same-bytes : tie.Need-slice-aggregate-same-bytes Inv-loop μ-loop
-slice-aggregate-same-bytes c = search needs
-
-same-bytes-requires : tie.Need-same-bytes-requires Inv-loop μ-loop
-same-bytes-requires c κs = search needs
+is-named-requires : tie.Need-is-named-requires Inv-loop μ-loop
+is-named-requires c κs = search needs
 
 add-with-trailer : tie.Need-add-with-trailer Inv-loop μ-loop
 add-with-trailer c =
-    let f = c .before .before .before .before .before in
+    let f = c .before .before .before .before in
     let within = find-end _ _ _ _ (f .find2 .ensures) (f .before .loop-test .taken) in
     omega arith
 
@@ -69,32 +65,31 @@ with-trailer-requires c κs = search needs
 
 returns-2 : tie.Need-returns-2 Inv-loop μ-loop
 returns-2 c =
-    let f = c .before .before .before .before .before .before in
-    let trailer = ap (λ (l : Bytes). same l (ascii "SE")) (sym (c .before .before .before .before .id .ensures)) ∙ sym (c .before .before .same-bytes .ensures) ∙ c .before .if2 .taken in
+    let f = c .before .before .before .before .before in
+    let trailer = sym (c .before .before .is-named .ensures) ∙ c .before .if2 .taken in
     c .with-trailer .ensures
     ∙ sym (f .before .before .loop .inv .1 ∙ set-goes _ _ _ _ (f .before .loop-test .taken) (f .find2 .ensures) _ _ true _ trailer refl)
 
-slice-aggregate-same-bytes-2 : tie.Need-slice-aggregate-same-bytes-2 Inv-loop μ-loop
-slice-aggregate-same-bytes-2 c = search needs
+slice-aggregate-is-named-2 : tie.Need-slice-aggregate-is-named-2 Inv-loop μ-loop
+slice-aggregate-is-named-2 c = search needs
 
-same-bytes-requires-2 : tie.Need-same-bytes-requires-2 Inv-loop μ-loop
-same-bytes-requires-2 c κs = search needs
+is-named-requires-2 : tie.Need-is-named-requires-2 Inv-loop μ-loop
+is-named-requires-2 c κs = search needs
 
 without-trailer-requires-2 : tie.Need-without-trailer-requires-2 Inv-loop μ-loop
 without-trailer-requires-2 c κs = search needs
 
 returns-3 : tie.Need-returns-3 Inv-loop μ-loop
 returns-3 c =
-    let f = c .before .before .before .before .before .before .before .before .before in
-    let id = sym (c .before .before .before .before .before .before .before .id .ensures) in
-    let trailer = ap (λ (l : Bytes). same l (ascii "SE")) id ∙ sym (c .before .before .before .before .before .same-bytes .ensures) ∙ c .before .before .before .before .if2 .left in
-    let header = ap (λ (l : Bytes). same l (ascii "ST")) id ∙ sym (c .before .before .same-bytes2 .ensures) ∙ c .before .if3 .taken in
+    let f = c .before .before .before .before .before .before .before .before in
+    let trailer = sym (c .before .before .before .before .before .is-named .ensures) ∙ c .before .before .before .before .if2 .left in
+    let header = sym (c .before .before .is-named2 .ensures) ∙ c .before .if3 .taken in
     c .without-trailer2 .ensures
     ∙ sym (f .before .before .loop .inv .1 ∙ set-goes _ _ _ _ (f .before .loop-test .taken) (f .find2 .ensures) _ _ false true trailer header)
 
 add-next-2 : tie.Need-add-next-2 Inv-loop μ-loop
 add-next-2 c =
-    let f = c .before .before .before .before .before .before .before .before in
+    let f = c .before .before .before .before .before .before .before in
     let within = find-end _ _ _ _ (f .find2 .ensures) (f .before .loop-test .taken) in
     omega arith
 
@@ -103,11 +98,10 @@ loop-less c = search needs
 
 loop-again : tie.Need-loop-again Inv-loop μ-loop
 loop-again c =
-    let f = c .before .before .before .before .before .before .before .before in
+    let f = c .before .before .before .before .before .before .before in
     let within = find-end _ _ _ _ (f .find2 .ensures) (f .before .loop-test .taken) in
-    let id = sym (c .before .before .before .before .before .before .id .ensures) in
-    let trailer = ap (λ (l : Bytes). same l (ascii "SE")) id ∙ sym (c .before .before .before .before .same-bytes .ensures) ∙ c .before .before .before .if2 .left in
-    let header = ap (λ (l : Bytes). same l (ascii "ST")) id ∙ sym (c .before .same-bytes2 .ensures) ∙ c .if3 .left in (
+    let trailer = sym (c .before .before .before .before .is-named .ensures) ∙ c .before .before .before .if2 .left in
+    let header = sym (c .before .is-named2 .ensures) ∙ c .if3 .left in (
       omega arith,
       f .before .before .loop .inv .1 ∙ set-goes _ _ _ _ (f .before .loop-test .taken) (f .find2 .ensures) _ _ false false trailer header,
     )
@@ -130,17 +124,16 @@ next-set-spec =
     add-next
     loop-holds
     find-requires-2
-    sub-id
-    part-id-start
-    part-id-end
-    id-requires
-    slice-aggregate-same-bytes
-    same-bytes-requires
+    sub-segment
+    part-segment-start
+    part-segment-end
+    slice-aggregate-is-named
+    is-named-requires
     add-with-trailer
     with-trailer-requires
     returns-2
-    slice-aggregate-same-bytes-2
-    same-bytes-requires-2
+    slice-aggregate-is-named-2
+    is-named-requires-2
     without-trailer-requires-2
     returns-3
     add-next-2

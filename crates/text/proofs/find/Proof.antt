@@ -1,10 +1,12 @@
 -- `text::find` meets its contract.
 use Prim.Native.Nat.{_+_, _-_}
 use mathlib.Core.Path.{_≡_, sym, _∙_}
+use native.Mathlib.Omega.{arith}
 use borrow.Author.Needs.{needs}
+use borrow.Author.Tests.{leb-true}
 use lib.ListN.{length, drop}
 use Rattle.text.specs.Text.{indexOf}
-use Rattle.text.proofs.Search.{index-here, index-later, index-none}
+use Rattle.text.proofs.Search.{index-past}
 use Rattle.text.proofs.find.Statement.{statement}
 use Rattle.text.proofs.find.Tie as tie
 
@@ -17,11 +19,11 @@ abbrev μ-loop : tie.MeasureT-loop
 loop-holds : tie.Need-loop-holds Inv-loop μ-loop
 loop-holds c = search needs
 
-shared-slice-read-if1 : tie.Need-shared-slice-read-if1 Inv-loop μ-loop
-shared-slice-read-if1 c = search needs
+sub-if1 : tie.Need-sub-if1 Inv-loop μ-loop
+sub-if1 c = search needs
 
-returns : tie.Need-returns Inv-loop μ-loop
-returns c = sym (c .before .before .before .loop .inv ∙ index-here _ _ _ (c .before .before .loop-test .taken) (c .if1 .taken))
+is-in-eight-requires : tie.Need-is-in-eight-requires Inv-loop μ-loop
+is-in-eight-requires c κs = omega (arith, leb-true)
 
 add-i : tie.Need-add-i Inv-loop μ-loop
 add-i c = search needs
@@ -30,10 +32,16 @@ loop-less : tie.Need-loop-less Inv-loop μ-loop
 loop-less c = search needs
 
 loop-again : tie.Need-loop-again Inv-loop μ-loop
-loop-again c = c .before .before .before .loop .inv ∙ index-later _ _ _ (c .before .before .loop-test .taken) (c .if1 .left)
+loop-again c =
+    let l = c .before .before .before .before in
+    let a = l .before .before .args in
+    l .loop .inv ∙ index-past (a .b) (a .s .now) (l .loop .i) 8 (omega (arith, leb-true)) (sym (c .before .is-in-eight .ensures) ∙ c .if2 .left)
 
-returns-2 : tie.Need-returns-2 Inv-loop μ-loop
-returns-2 c = sym (c .before .loop .inv ∙ index-none _ _ _ (c .loop-test .left))
+find-near-requires : tie.Need-find-near-requires Inv-loop μ-loop
+find-near-requires c κs = search needs
+
+returns : tie.Need-returns Inv-loop μ-loop
+returns c = c .find-near .ensures ∙ sym (c .before .before .loop .inv)
 
 pub find-spec : {M : Type 1} → statement M
 find-spec =
@@ -42,9 +50,10 @@ find-spec =
     Inv-loop
     μ-loop
     loop-holds
-    shared-slice-read-if1
-    returns
+    sub-if1
+    is-in-eight-requires
     add-i
     loop-less
     loop-again
-    returns-2)
+    find-near-requires
+    returns)
