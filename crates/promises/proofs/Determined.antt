@@ -16,6 +16,7 @@ use Rattle.notes.specs.declared.Told.{Told}
 use Rattle.rules.proofs.Delimiters.new.Reads as rules-Delimiters-new
 use Rattle.rules.proofs.Finding.new.Reads as rules-Finding-new
 use Rattle.text.proofs.find.Reads as text-find
+use Rattle.text.proofs.find_near.Reads as text-find-near
 use Rattle.text.proofs.same_bytes.Reads as text-same-bytes
 use Rattle.text.proofs.all_digits.Reads as text-all-digits
 use Rattle.text.proofs.is_digits.Reads as text-is-digits
@@ -73,6 +74,7 @@ use Rattle.tables.proofs.kind_of.Reads as tables-kind-of
 use Rattle.tables.proofs.relation_of.Reads as tables-relation-of
 use Rattle.tables.proofs.is_entry.Reads as tables-is-entry
 use Rattle.tables.proofs.next_entry.Reads as tables-next-entry
+use Rattle.tables.proofs.next_in_order.Reads as tables-next-in-order
 use Rattle.tables.proofs.reach.Reads as tables-reach
 use Rattle.tables.proofs.next_mandatory.Reads as tables-next-mandatory
 use Rattle.tables.proofs.has_values.Reads as tables-has-values
@@ -167,6 +169,9 @@ rules-Finding-new-once κs a r₁ r₂ s₁ s₂ p q = p ∙ sym q
 -- text
 text-find-once : Once text-find.Post (λ κs r s. r)
 text-find-once κs a r₁ r₂ s₁ s₂ p q = p ∙ sym q
+
+text-find-near-once : Once text-find-near.Post (λ κs r s. r)
+text-find-near-once κs a r₁ r₂ s₁ s₂ p q = p ∙ sym q
 
 text-same-bytes-once : Once text-same-bytes.Post (λ κs r s. r)
 text-same-bytes-once κs a r₁ r₂ s₁ s₂ p q = p ∙ sym q
@@ -347,6 +352,9 @@ tables-is-entry-once κs a r₁ r₂ s₁ s₂ p q = p ∙ sym q
 
 tables-next-entry-once : Once tables-next-entry.Post (λ κs r s. r)
 tables-next-entry-once κs a r₁ r₂ s₁ s₂ p q = p ∙ sym q
+
+tables-next-in-order-once : Once tables-next-in-order.Post (λ κs r s. r)
+tables-next-in-order-once κs a r₁ r₂ s₁ s₂ p q = p ∙ sym q
 
 tables-reach-once : Once tables-reach.Post (λ κs r s. r)
 tables-reach-once κs a r₁ r₂ s₁ s₂ p q = p ∙ sym q
