@@ -8,7 +8,7 @@ use native.Mathlib.Omega.{arith}
 use borrow.Author.Tests.{ne-eqb}
 use lib.Dec.{eqb}
 use lib.ListN.{length, take, drop, length-append, length-take, length-drop, length-map}
-use Rattle.rules.specs.Base.{Bytes, ascii, null, any, isNone, same, member, if_then_else_}
+use Rattle.rules.specs.Base.{Bytes, _⇒_, every, ascii, null, any, isNone, same, member, if_then_else_}
 use Rattle.rules.specs.Cutting.{field, split, pieces, segments}
 use Rattle.rules.specs.Numbers.{decimal}
 use Rattle.rules.specs.Tables.{Table, tableOf}
@@ -22,7 +22,7 @@ use Rattle.segments.proofs.Pieces.{segments-at}
 use Rattle.sets.specs.declared.SetAt.{SetAt}
 use Rattle.sets.proofs.Sets.{SetIs, setIn, header-at}
 use Rattle.verdicts.specs.Collecting.{codesOf, collected}
-use Rattle.verdicts.specs.Verdicts.{trailerIf, setCodeRules}
+use Rattle.verdicts.specs.Verdicts.{trailerIf, otherControl, otherCount, setCodeRules}
 use Rattle.verdicts.specs.declared.Codes.{Codes}
 use Rattle.verdicts.proofs.Laws.{closed-if, trailer-if, set-codes}
 use Rattle.findings.specs.Events.{flat, written}
@@ -105,6 +105,21 @@ has-table : (supported : Bool) (t : Table) → supported ≡ not (isNone (tableI
 has-table true t = refl
 has-table false t = refl
 
+-- a set with a number of its own has no code where it has none without its notes, and no notes
+notes-reject : (t : Option Table) (ns : List Note) (s : Set) → null (setCodes t ns [] s) ≡ null (setCodes t [] [] s) && null ns
+unfolding setCodes every any
+notes-reject t ns s =
+    go (isNone t) (isNone (s .trailer)) (otherControl (controlOf s) (s .trailer)) (otherCount 10 (length (segmentsOf s)) (s .trailer)) (null ns)
+  where
+    go : (a b c e n : Bool) → null (every ((a ⇒ 1) ∷ (b ⇒ 2) ∷ (c ⇒ 3) ∷ (e ⇒ 4) ∷ (not n ⇒ 5) ∷ (false ⇒ 23) ∷ []))
+        ≡ null (every ((a ⇒ 1) ∷ (b ⇒ 2) ∷ (c ⇒ 3) ∷ (e ⇒ 4) ∷ (false ⇒ 5) ∷ (false ⇒ 23) ∷ [])) && n
+    go true b c e n = refl
+    go false true c e n = refl
+    go false false true e n = refl
+    go false false false true n = refl
+    go false false false false true = refl
+    go false false false false false = refl
+
 module _ {d : Delimiters} {s : Set} {closed : Bool} {bs st se : Bytes} (parts : Parts d s closed bs st se)
     (ids : List (List ℕ)) {rows : Guide} (limits : Limits rows) where
   abbrev notes : Bool → List Note
@@ -121,10 +136,6 @@ module _ {d : Delimiters} {s : Set} {closed : Bool} {bs st se : Bytes} (parts : 
   notes-are true = rw events-are (written-flat _)
   notes-are false = refl
 
-  noted-are : (supported : Bool) → supported && not (null (events (left bs d ids rows closed start))) ≡ not (null (notes supported))
-  noted-are true = rw (events-are, null-flat (notes true))
-  noted-are false = refl
-
   -- the codes as collected by the parts
   abbrev codesBy : Bool → Bool → Bool → Codes
   codesBy supported noted repeated =
@@ -132,25 +143,34 @@ module _ {d : Delimiters} {s : Set} {closed : Bool} {bs st se : Bytes} (parts : 
       (setCodeRules supported (split (d .element) st) (trailerIf closed (split (d .element) se)) (length (pieces (d .terminator) bs)) noted repeated)
 
   -- are the set's
-  codes-are : (supported : Bool) (earlier : List Bytes) {codes : Codes} {noted repeated : Bool} → noted ≡ not (null (notes supported))
+  codes-are : (supported : Bool) (ns : List Note) (earlier : List Bytes) {codes : Codes} {noted repeated : Bool} → noted ≡ not (null ns)
       → repeated ≡ member (controlOf s) earlier → codes ≡ codesBy supported noted repeated
-      → codesOf codes ≡ setCodes (tableIf supported (tableOf ids rows)) (notes supported) earlier s
+      → codesOf codes ≡ setCodes (tableIf supported (tableOf ids rows)) ns earlier s
   unfolding segments
-  codes-are supported earlier e g f =
+  codes-are supported ns earlier e g f =
       rw f
-      (set-codes _ (notes supported) earlier s (has-table supported (tableOf ids rows)) (parts .header) (parts .trailer)
+      (set-codes _ ns earlier s (has-table supported (tableOf ids rows)) (parts .header) (parts .trailer)
       (sym (ap length (parts .whole) ∙ length-map (pieces (d .terminator) bs) (split (d .element)))) e g)
 
+  -- no code but 5 and 23, and no note
+  clean-by : (supported : Bool) {fine r : Bool} {codes : Codes} → codes ≡ codesBy supported false false → fine ≡ null (codesOf codes)
+      → r ≡ fine && not (not (null (events (left bs d ids rows closed start))))
+      → r ≡ null (setCodes (tableIf supported (tableOf ids rows)) (notes supported) [] s)
+  unfolding setCodes every any
+  clean-by true f g h =
+      h
+      ∙ rw (g, codes-are true [] [] refl refl f, events-are, null-flat (notes true), Bool·not-not (null (notes true)))
+      (sym (notes-reject (some (tableOf ids rows)) (notes true) s))
+  clean-by false f g h = h ∙ rw (g, codes-are false [] [] refl refl f)
+
   -- whether a set has no code, where its number is new
-  pub clean-is : (known : Bool) {supported noted r : Bool} {codes : Codes}
+  pub clean-is : (known : Bool) {supported fine r : Bool} {codes : Codes}
       → supported ≡ known && same (field (split (d .element) st) 1) (ascii "990")
-      → noted ≡ supported && not (null (events (left bs d ids rows closed start)))
-      → codes ≡ codesBy supported noted false → r ≡ null (codesOf codes)
+      → codes ≡ codesBy supported false false → fine ≡ null (codesOf codes)
+      → r ≡ fine && not (not (null (events (left bs d ids rows closed start))))
       → r ≡ accepted (setReport d (tableWith known (tableOf ids rows) s) [] s)
-  unfolding setReport any
-  clean-is known {supported} e n f g =
-      let which = rw (parts .header) at e in
-      rw (← which) (g ∙ ap null (codes-are supported [] (n ∙ noted-are supported) refl f))
+  unfolding setReport
+  clean-is known {supported} e f g h = let which = rw (parts .header) at e in rw (← which) (clean-by supported f g h)
 
   -- what is written of a set by its parts is the block of its report
   pub block-of : (known : Bool) (earlier : List Bytes) {supported repeated : Bool} {codes : Codes} {told : Told} {n l m : ℕ} {o o₁ o₂ o₃ : Bytes}
@@ -164,6 +184,6 @@ module _ {d : Delimiters} {s : Set} {closed : Bool} {bs st se : Bytes} (parts : 
   unfolding setReport ak2 ak5
   block-of known earlier {supported} {codes = codes} e a b f c g k =
       let tells = rw (notes-are supported) at b in
-      let same-codes = codes-are supported earlier (are-notes (notes supported) (tells .number)) k f in
+      let same-codes = codes-are supported (notes supported) earlier (are-notes (notes supported) (tells .number)) k f in
       let which = rw (parts .header) at e in
       rw (← which) (block-written _ (rw (parts .header) at a) tells (rw same-codes at c) g)

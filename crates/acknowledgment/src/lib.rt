@@ -93,9 +93,9 @@ fn is_clean(
     let trailer = sets::part(body, place.trailer, place.end - 1);
     let closed = place.closed;
     let supported = known && verdicts::is_load_response(segments::field(header, d.element, 1));
-    let noted = supported && findings::is_noted(set, d, directory, guide, closed);
     let count = segments::segment_count(set, d.terminator);
-    verdicts::set_codes(supported, closed, trailer, header, d, count, noted, false).is_empty()
+    let codes = verdicts::set_codes(supported, closed, trailer, header, d, count, false, false);
+    codes.is_empty() && !findings::is_noted(set, d, directory, guide, closed)
 }
 
 // The mark of the set at a place.
