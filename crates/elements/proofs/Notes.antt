@@ -1,6 +1,6 @@
 -- Syntax notes: the relations test by test, the notes of an entry at a cursor, and which code a broken note gives.
 use mathlib.Core.Path.{_≡_, refl, _∙_}
-use mathlib.Core.Bool.{Bool, true, false, _&&_, _||_, not}
+use mathlib.Core.Bool.{Bool, true, false, _&&_, _||_, not, true≢false}
 use mathlib.Core.List.{List, [], _∷_}
 use Prim.Native.Nat.{ℕ, _+_, _-_, _<_, _≤_}
 use native.Mathlib.Numerals.{add-one}
@@ -9,16 +9,17 @@ use borrow.Author.Tests.{eqb-true}
 use lib.Dec.{eqb}
 use lib.ListN.{length, getD, take, drop, drop-of-length-le, length-drop}
 use lib.Seq.{drop-cons, take-all}
-use Rattle.rules.specs.Base.{any}
+use Rattle.rules.specs.Base.{any, if_then_else_}
 use Rattle.rules.specs.Cutting.{Segment}
 use Rattle.rules.specs.Elements.{present, isPlace, afterPresent, lacking, excluded, lacks, shutsOut}
-use Rattle.rules.specs.Tables.{Syntax, isRow, notesIn}
+use Rattle.rules.specs.Tables.{Syntax, isRow, relationOf, notesIn}
 use Rattle.rules.specs.declared.Relation.{Relation}
 use Rattle.rules.specs.declared.Relation.the-variants.{P, R, E, C, L}
+use Rattle.rules.proofs.Logic.{or-left, or-right}
 use Rattle.text.proofs.Loops.{and-false, or-false}
 use Rattle.tables.specs.Reading.{Guide, noteAt}
 use Rattle.tables.proofs.Laws.{notes-here, notes-skip, notes-stop, notes-end}
-use Rattle.elements.specs.Notes.{breaks}
+use Rattle.elements.specs.Notes.{breaks, breaksBy, isE, concerns}
 
 -- 1. The places after the first present one, at a cursor.
 module _ (s : Segment) (ps : List ℕ) (k : ℕ) where
@@ -147,6 +148,40 @@ module _ (s : Segment) (n : ℕ) where
   unfolding shutsOut any
   breaks-present [] e = refl
   breaks-present (c ∷ notes) e = rw (lacking-present (c .relation) (c .places) e, breaks-present notes e)
+
+  -- a note that does not concern the place is not broken there
+  pub unconcerned : (b : Bool) (notes : List Syntax) → present s n ≡ b → any (concerns b) notes ≡ false → any (breaks s n) notes ≡ false
+  unfolding any
+  unconcerned b [] e f = refl
+  unconcerned b (c ∷ notes) e f =
+      rw (one b (c .relation) (c .places) e (or-left (concerns b c) (any (concerns b) notes) f))
+      (unconcerned b notes e (or-right (concerns b c) (any (concerns b) notes) f))
+    where
+      one : (b : Bool) (r : Relation) (ps : List ℕ) → present s n ≡ b → concerns b (record { relation = r; places = ps }) ≡ false → breaksBy s n r ps ≡ false
+      one true E ps e f = absurd (true≢false f)
+      one true P ps e f = rw (lacking-present P ps e)
+      one true R ps e f = rw (lacking-present R ps e)
+      one true C ps e f = rw (lacking-present C ps e)
+      one true L ps e f = rw (lacking-present L ps e)
+      one false E ps e f = excluded-absent E ps e
+      one false P ps e f = absurd (true≢false f)
+      one false R ps e f = absurd (true≢false f)
+      one false C ps e f = absurd (true≢false f)
+      one false L ps e f = absurd (true≢false f)
+
+pub relation-e : (n : ℕ) → isE (relationOf n) ≡ eqb n 2
+unfolding relationOf
+relation-e n = go (eqb n 1) refl
+  where
+    rest2 : (a b c : Bool) → isE (if a then E else (if b then C else (if c then L else P))) ≡ a
+    rest2 true b c = refl
+    rest2 false true c = refl
+    rest2 false false true = refl
+    rest2 false false false = refl
+
+    go : (a : Bool) → eqb n 1 ≡ a → isE (if a then R else (if eqb n 2 then E else (if eqb n 3 then C else (if eqb n 4 then L else P)))) ≡ eqb n 2
+    go true e = rw (eqb-true n 1 e)
+    go false e = rest2 (eqb n 2) (eqb n 3) (eqb n 4)
 
 -- 4. The notes of an entry at a cursor: the one at row k passes as q says, and the rest decides.
 module _ (p : Syntax → Bool) (rows : Guide) (k : ℕ) where

@@ -1,12 +1,13 @@
 -- Syntax notes: whether one is broken at a place, by an element that it asks for or by one that it shuts out.
 use Prim.Native.Nat.{ℕ}
-use mathlib.Core.Bool.{Bool, _||_}
+use mathlib.Core.Bool.{Bool, true, false, _||_, not}
 use mathlib.Core.List.{List}
 use lib.ListN.{drop}
 use Rattle.rules.specs.Cutting.{Segment}
 use Rattle.rules.specs.Elements.{lacking, excluded}
 use Rattle.rules.specs.Tables.{Syntax, column, filled, relationOf}
 use Rattle.rules.specs.declared.Relation.{Relation}
+use Rattle.rules.specs.declared.Relation.the-variants.{P, R, E, C, L}
 
 -- the note that a row of numbers is
 abbrev pub noteIs : List ℕ → Syntax
@@ -14,6 +15,19 @@ noteIs r = record { relation = relationOf (column r 1); places = filled (drop 2 
 
 abbrev pub breaksBy : Segment → ℕ → Relation → List ℕ → Bool
 breaksBy s n relation places = lacking s relation places n || excluded s relation places n
+
+-- only E shuts out what is present, and the others ask for what is absent
+abbrev pub isE : Relation → Bool
+isE E = true
+isE P = false
+isE R = false
+isE C = false
+isE L = false
+
+-- the note can be broken where an element is present, or where it is absent
+abbrev pub concerns : Bool → Syntax → Bool
+concerns true c = isE (c .relation)
+concerns false c = not (isE (c .relation))
 
 abbrev pub breaks : Segment → ℕ → Syntax → Bool
 breaks s n c = breaksBy s n (c .relation) (c .places)

@@ -11,11 +11,14 @@ ghost use Rattle.rules.specs.Numbers as numbers;
 ghost use Rattle.rules.specs.Tables as tables;
 ghost use Rattle.tables.specs.Reading.{rowAt, codesAt, entryAt};
 ghost use Rattle.elements.specs.Forms.{formOf};
-ghost use Rattle.elements.specs.Notes.{noteIs, breaks, breaksBy};
+ghost use Rattle.elements.specs.Notes.{noteIs, breaks, breaksBy, concerns};
 ghost use Rattle.elements.specs.Places.{nextEnd, stageCode};
 use rules::Delimiters;
 use rules::Kind;
 use rules::Relation;
+
+// The column of a note's row.
+const RELATION: usize = 1;
 
 // The columns of an element's row.
 const MANDATORY: usize = 2;
@@ -319,6 +322,44 @@ fn breaks_notes(s: &[u8], e: u8, guide: &[[u16; 6]], from: usize, n: usize) -> b
     false
 }
 
+// The row is a note that can be broken where an element is present, or where it is absent.
+fn concerns(guide: &[[u16; 6]], k: usize, present: bool) -> bool
+    ensures { λ r. ⌜ r ≡ (tables.isRow 4 (getD (now (guide .entry)) k []) && concerns present (noteIs (getD (now (guide .entry)) k []))) ⌝ }
+{
+    if !tables::is_note(guide, k) {
+        return false;
+    }
+    if present {
+        return tables::number(guide, k, RELATION) == tables::E;
+    }
+    tables::number(guide, k, RELATION) != tables::E
+}
+
+// Such a note stands from row `from` on.
+fn concerns_any(guide: &[[u16; 6]], from: usize, present: bool) -> bool
+    ensures { λ r. ⌜ r ≡ any (concerns present) (tables.notesIn (drop from (now (guide .entry)))) ⌝ }
+{
+    let mut k = from;
+    while k < guide.len() {
+        if tables::is_segment(guide, k) {
+            return false;
+        }
+        if concerns(guide, k, present) {
+            return true;
+        }
+        k += 1;
+    }
+    false
+}
+
+// A note from row `from` on is broken at place n, which is present or absent.
+fn breaks_any(s: &[u8], e: u8, guide: &[[u16; 6]], from: usize, n: usize, present: bool) -> bool
+    requires { ⌜ present ≡ rules.present (split e (now s)) n ⌝ }
+    ensures { λ r. ⌜ r ≡ any (breaks (split e (now (s .entry))) n) (tables.notesIn (drop from (now (guide .entry)))) ⌝ }
+{
+    concerns_any(guide, from, present) && breaks_notes(s, e, guide, from, n)
+}
+
 // The row after an entry's own; past the end there is none, whatever the number.
 fn below(guide: &[[u16; 6]], entry: usize) -> usize
     ensures { λ r. ⌜ drop r (now (guide .entry)) ≡ drop (entry + 1) (now (guide .entry)) ⌝ }
@@ -416,7 +457,7 @@ fn next_end(s: &[u8], e: u8, end: usize) -> usize
     ensures { λ r. ⌜ r ≡ nextEnd e (now (s .entry)) end ⌝ }
 {
     if end < s.len() {
-        return text::find(s, end + 1, e);
+        return text::find_near(s, end + 1, e);
     }
     end
 }
@@ -441,7 +482,7 @@ pub fn is_clean(s: &[u8], d: Delimiters, guide: &[[u16; 6]], entry: usize) -> bo
     let notes = first_note(guide, k);
     // Place n comes next, after the field that ends at `end`.
     let mut n: usize = 1;
-    let mut end = text::find(s, 0, d.element);
+    let mut end = text::find_near(s, 0, d.element);
     while k < guide.len() {
         if tables::is_segment(guide, k) {
             return s.len() <= end;
@@ -451,10 +492,11 @@ pub fn is_clean(s: &[u8], d: Delimiters, guide: &[[u16; 6]], entry: usize) -> bo
             continue;
         }
         let next = next_end(s, d.element, end);
-        if element_code(field_between(s, end, next), d, guide, k) != 0 {
+        let field = field_between(s, end, next);
+        if element_code(field, d, guide, k) != 0 {
             return false;
         }
-        if breaks_notes(s, d.element, guide, notes, n) {
+        if breaks_any(s, d.element, guide, notes, n, 0 < field.len()) {
             return false;
         }
         end = next;

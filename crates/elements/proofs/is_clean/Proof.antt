@@ -6,12 +6,13 @@ use Prim.Native.Nat.{ℕ, _+_, _-_, _≤_}
 use borrow.Author.Tests.{eq-eqb, ne-eqb, not-true, not-false}
 use lib.Dec.{eqb}
 use lib.ListN.{length}
-use Rattle.rules.specs.Base.{null, any}
+use denote.Ref.{now}
+use Rattle.rules.specs.Base.{Bytes, null, any}
 use Rattle.rules.specs.Cutting.{split}
 use Rattle.rules.specs.Elements.{elementCode, findings, findingsFrom}
 use Rattle.rules.specs.Tables.{notesIn, rowsIn}
 use Rattle.text.proofs.Search.{find-le}
-use Rattle.segments.proofs.Fields.{FieldAt, field-first, field-next}
+use Rattle.segments.proofs.Fields.{FieldAt, field-first, field-next, present-length}
 use Rattle.tables.specs.Reading.{entryAt, rowAt}
 use Rattle.tables.proofs.Laws.{rows-stop, rows-end}
 use Rattle.elements.specs.Notes.{breaks}
@@ -52,12 +53,12 @@ row-left c broken q =
     broken q
 
 -- what the notes from the first on say is what the entry's notes say
-notes-said : (c : tie.After-breaks-notes Inv-loop μ-loop)
+notes-said : (c : tie.After-breaks-any Inv-loop μ-loop)
     → (let a = c .before .before .before .before .before .before .before .before .before .before .before .before .before .before .before .args in
-    c .breaks-notes .result ≡ any (breaks (split (a .d .element) (a .s .now)) (c .before .before .before .before .before .before .before .before .before .before .loop .n)) (entryAt (a .guide .now) (a .entry) .notes))
+    c .breaks-any .result ≡ any (breaks (split (a .d .element) (a .s .now)) (c .before .before .before .before .before .before .before .before .before .before .loop .n)) (entryAt (a .guide .now) (a .entry) .notes))
 notes-said c =
     let a = c .before .before .before .before .before .before .before .before .before .before .before .before .before .before .before .args in
-    c .breaks-notes .ensures
+    c .breaks-any .ensures
     ∙ ap (any (breaks (split (a .d .element) (a .s .now)) (c .before .before .before .before .before .before .before .before .before .before .loop .n))) (c .before .before .before .before .before .before .before .before .before .before .before .before .first-note .ensures ∙ ap notesIn (c .before .before .before .before .before .before .before .before .before .before .before .before .before .below .ensures))
 
 below-requires : tie.Need-below-requires Inv-loop μ-loop
@@ -66,15 +67,15 @@ below-requires c κs = search needs
 first-note-requires : tie.Need-first-note-requires Inv-loop μ-loop
 first-note-requires c κs = search needs
 
-find-requires : tie.Need-find-requires Inv-loop μ-loop
-find-requires c κs = search needs
+find-near-requires : tie.Need-find-near-requires Inv-loop μ-loop
+find-near-requires c κs = search needs
 
 loop-holds : tie.Need-loop-holds Inv-loop μ-loop
 unfolding findings
 loop-holds c =
     let a = c .before .before .before .before .args in
     let s = split (a .d .element) (a .s .now) in
-    (field-next field-first (c .find .ensures), omega (arith, c .find .ensures, find-le (a .d .element) (a .s .now) 0 (omega arith)), omega arith, ap (λ (l : List (List ℕ)). null (findingsFrom (a .d) (entryAt (a .guide .now) (a .entry) .notes) s 1 (rowsIn l))) (sym (c .before .before .below .ensures)))
+    (field-next field-first (c .find-near .ensures), omega (arith, c .find-near .ensures, find-le (a .d .element) (a .s .now) 0 (omega arith)), omega arith, ap (λ (l : List (List ℕ)). null (findingsFrom (a .d) (entryAt (a .guide .now) (a .entry) .notes) s 1 (rowsIn l))) (sym (c .before .before .below .ensures)))
 
 is-segment-requires : tie.Need-is-segment-requires Inv-loop μ-loop
 is-segment-requires c κs = search needs
@@ -115,8 +116,12 @@ element-code-requires c κs = search needs
 returns-2 : tie.Need-returns-2 Inv-loop μ-loop
 returns-2 c = sym (row-left (c .before) _ refl ∙ rw (ne-eqb _ _ (c .if3 .taken)))
 
-breaks-notes-requires : tie.Need-breaks-notes-requires Inv-loop μ-loop
-breaks-notes-requires c κs = search needs
+breaks-any-requires : tie.Need-breaks-any-requires Inv-loop μ-loop
+breaks-any-requires c κs =
+    let a = c .before .before .before .before .before .before .before .before .before .before .before .before .before .before .args in
+    let l = c .before .before .before .before .before .before .before .before .before .loop in
+    let value = next-field (a .d .element) (a .s .now) (l .n) (l .end) _ (l .inv .0) (c .before .before .before .next-end .ensures) in
+    sym (ap (λ (v : Bytes). not (null v)) (value ∙ sym (c .before .before .field-between .ensures)) ∙ present-length (now (c .before .before .field-between .result)))
 
 returns-3 : tie.Need-returns-3 Inv-loop μ-loop
 returns-3 c = sym (row-left (c .before .before .before) _ (notes-said (c .before)) ∙ rw (eq-eqb _ _ (c .before .before .if3 .left), c .if4 .taken))
@@ -151,7 +156,7 @@ is-clean-spec =
     μ-loop
     below-requires
     first-note-requires
-    find-requires
+    find-near-requires
     loop-holds
     is-segment-requires
     returns
@@ -163,7 +168,7 @@ is-clean-spec =
     field-between-requires
     element-code-requires
     returns-2
-    breaks-notes-requires
+    breaks-any-requires
     returns-3
     add-n
     add-k-2

@@ -5,19 +5,19 @@ use borrow.Author.Needs.{needs}
 use Rattle.elements.proofs.next_end.Statement.{statement}
 use Rattle.elements.proofs.next_end.Tie as tie
 
-add-find : tie.Need-add-find
-add-find c = search needs
+add-find-near : tie.Need-add-find-near
+add-find-near c = search needs
 
-find-requires : tie.Need-find-requires
-find-requires c κs = search needs
+find-near-requires : tie.Need-find-near-requires
+find-near-requires c κs = search needs
 
 returns : tie.Need-returns
 unfolding nextEnd
-returns c = rw (lt-ltb _ _ (c .before .if1 .taken)) (c .find .ensures)
+returns c = rw (lt-ltb _ _ (c .before .if1 .taken)) (c .find-near .ensures)
 
 returns-2 : tie.Need-returns-2
 unfolding nextEnd
 returns-2 c = rw (le-ltb _ _ (c .if1 .left))
 
 pub next-end-spec : {M : Type 1} → statement M
-next-end-spec = tie.close (tie.spec add-find find-requires returns returns-2)
+next-end-spec = tie.close (tie.spec add-find-near find-near-requires returns returns-2)

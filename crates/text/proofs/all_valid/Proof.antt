@@ -1,20 +1,21 @@
 -- `text::all_valid` meets its contract.
 use Prim.Native.Nat.{_-_}
 use mathlib.Core.Path.{_≡_, sym, _∙_}
+use mathlib.Core.Bool.{_&&_}
+use native.Mathlib.Omega.{arith}
 use borrow.Author.Needs.{needs}
-use borrow.Author.Tests.{not-true, not-false}
 use lib.ListN.{length, drop}
 use Rattle.rules.specs.Base.{all}
 use Rattle.rules.specs.Cutting.{valid}
-use Rattle.text.proofs.Loops.{all-step, all-end}
+use Rattle.text.proofs.Loops.{and-true, and-assoc, all-step, all-end}
 use Rattle.text.proofs.all_valid.Statement.{statement}
 use Rattle.text.proofs.all_valid.Tie as tie
 
 abbrev Inv-loop : tie.InvT-loop
-Inv-loop s d i₀ i = all (valid d) s ≡ all (valid d) (drop i s)
+Inv-loop s d passed₀ i₀ passed i = all (valid d) s ≡ passed && all (valid d) (drop i s)
 
 abbrev μ-loop : tie.MeasureT-loop
-μ-loop s d i₀ i = length s - i
+μ-loop s d passed₀ i₀ passed i = length s - i
 
 loop-holds : tie.Need-loop-holds Inv-loop μ-loop
 loop-holds c = search needs
@@ -25,9 +26,6 @@ shared-slice-read-is-valid c = search needs
 is-valid-requires : tie.Need-is-valid-requires Inv-loop μ-loop
 is-valid-requires c κs = search needs
 
-returns : tie.Need-returns Inv-loop μ-loop
-returns c = sym (c .before .before .before .before .loop .inv ∙ all-step _ _ _ _ _ (c .before .before .before .loop-test .taken) (sym (c .before .is-valid .ensures) ∙ not-true _ (c .if1 .taken)))
-
 add-i : tie.Need-add-i Inv-loop μ-loop
 add-i c = search needs
 
@@ -35,10 +33,17 @@ loop-less : tie.Need-loop-less Inv-loop μ-loop
 loop-less c = search needs
 
 loop-again : tie.Need-loop-again Inv-loop μ-loop
-loop-again c = c .before .before .before .before .loop .inv ∙ all-step _ _ _ _ _ (c .before .before .before .loop-test .taken) (sym (c .before .is-valid .ensures) ∙ not-false _ (c .if1 .left))
+loop-again c =
+    let l = c .before .before .before in
+    let a = l .before .before .args in
+    let step = all-step (valid (a .d)) (a .s .now) 0 (l .loop .i) (c .is-valid .result) (omega arith) (sym (c .is-valid .ensures)) in
+    l .loop .inv ∙ rw step (sym (and-assoc (l .loop .valid) (c .is-valid .result) _))
 
-returns-2 : tie.Need-returns-2 Inv-loop μ-loop
-returns-2 c = sym (c .before .loop .inv ∙ all-end _ _ _ (c .loop-test .left))
+returns : tie.Need-returns Inv-loop μ-loop
+returns c =
+    let l = c .before in
+    let a = l .before .before .args in
+    sym (l .loop .inv ∙ rw (all-end (valid (a .d)) (a .s .now) (l .loop .i) (omega arith)) (and-true (l .loop .valid)))
 
 pub all-valid-spec : {M : Type 1} → statement M
 all-valid-spec =
@@ -49,8 +54,7 @@ all-valid-spec =
     loop-holds
     shared-slice-read-is-valid
     is-valid-requires
-    returns
     add-i
     loop-less
     loop-again
-    returns-2)
+    returns)

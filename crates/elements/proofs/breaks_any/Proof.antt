@@ -1,0 +1,28 @@
+-- `elements::breaks_any` meets its contract.
+use mathlib.Core.Path.{sym, _∙_}
+use lib.ListN.{drop}
+use Rattle.rules.specs.Cutting.{split}
+use Rattle.rules.specs.Tables.{notesIn}
+use Rattle.elements.proofs.Notes.{unconcerned}
+use borrow.Author.Needs.{needs}
+use Rattle.elements.proofs.breaks_any.Statement.{statement}
+use Rattle.elements.proofs.breaks_any.Tie as tie
+
+concerns-any-requires : tie.Need-concerns-any-requires
+concerns-any-requires c κs = search needs
+
+breaks-notes-requires : tie.Need-breaks-notes-requires
+breaks-notes-requires c κs = search needs
+
+returns : tie.Need-returns
+returns c = search needs
+
+returns-2 : tie.Need-returns-2
+returns-2 c =
+    let a = c .before .before .before .args in
+    c .if1 .left
+    ∙ sym (unconcerned (split (a .e) (a .s .now)) (a .n) (a .present) (notesIn (drop (a .from) (a .guide .now))) (sym (c .before .before .before .pre)) (sym (c .before .concerns-any .ensures) ∙ c .if1 .left))
+
+pub breaks-any-spec : {M : Type 1} → statement M
+breaks-any-spec =
+    tie.close (tie.spec concerns-any-requires breaks-notes-requires returns returns-2)

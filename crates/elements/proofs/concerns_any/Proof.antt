@@ -1,0 +1,70 @@
+-- `elements::concerns_any` meets its contract.
+use Prim.Native.Nat.{_-_}
+use mathlib.Core.Path.{_≡_, sym, _∙_}
+use mathlib.Core.Bool.{true, false}
+use borrow.Author.Needs.{needs}
+use lib.ListN.{length, drop}
+use Rattle.rules.specs.Base.{any}
+use Rattle.rules.specs.Tables.{notesIn}
+use Rattle.elements.specs.Notes.{concerns}
+use Rattle.elements.proofs.Notes.{notes-step, notes-over, notes-past}
+use Rattle.elements.proofs.concerns_any.Statement.{statement}
+use Rattle.elements.proofs.concerns_any.Tie as tie
+
+abbrev Inv-loop : tie.InvT-loop
+Inv-loop guide from present k₀ k = any (concerns present) (notesIn (drop from guide)) ≡ any (concerns present) (notesIn (drop k guide))
+
+abbrev μ-loop : tie.MeasureT-loop
+μ-loop guide from present k₀ k = length guide - k
+
+loop-holds : tie.Need-loop-holds Inv-loop μ-loop
+loop-holds c = search needs
+
+is-segment-requires : tie.Need-is-segment-requires Inv-loop μ-loop
+is-segment-requires c κs = search needs
+
+returns : tie.Need-returns Inv-loop μ-loop
+returns c =
+    let l = c .before .before .before in
+    let a = l .before .args in
+    sym (l .loop .inv ∙ notes-over _ (a .guide .now) (l .loop .k) (sym (c .before .is-segment .ensures) ∙ c .if1 .taken))
+
+concerns-requires : tie.Need-concerns-requires Inv-loop μ-loop
+concerns-requires c κs = search needs
+
+returns-2 : tie.Need-returns-2 Inv-loop μ-loop
+returns-2 c =
+    let l = c .before .before .before .before .before in
+    let a = l .before .args in
+    sym (l .loop .inv ∙ notes-step _ (a .guide .now) (l .loop .k) true (sym (c .before .before .before .is-segment .ensures) ∙ c .before .before .if1 .left) (sym (c .if2 .taken) ∙ c .before .concerns .ensures))
+
+add-k : tie.Need-add-k Inv-loop μ-loop
+add-k c = search needs
+
+loop-less : tie.Need-loop-less Inv-loop μ-loop
+loop-less c = search needs
+
+loop-again : tie.Need-loop-again Inv-loop μ-loop
+loop-again c =
+    let l = c .before .before .before .before .before in
+    let a = l .before .args in
+    l .loop .inv ∙ notes-step _ (a .guide .now) (l .loop .k) false (sym (c .before .before .before .is-segment .ensures) ∙ c .before .before .if1 .left) (sym (c .if2 .left) ∙ c .before .concerns .ensures)
+
+returns-3 : tie.Need-returns-3 Inv-loop μ-loop
+returns-3 c = sym (c .before .loop .inv ∙ notes-past _ _ _ (c .loop-test .left))
+
+pub concerns-any-spec : {M : Type 1} → statement M
+concerns-any-spec =
+    tie.close
+    (tie.spec
+    Inv-loop
+    μ-loop
+    loop-holds
+    is-segment-requires
+    returns
+    concerns-requires
+    returns-2
+    add-k
+    loop-less
+    loop-again
+    returns-3)
