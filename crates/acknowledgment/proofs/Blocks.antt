@@ -7,9 +7,9 @@ use Prim.Native.Nat.{ℕ, _+_, _-_, _<_}
 use native.Mathlib.Omega.{arith}
 use borrow.Author.Tests.{ne-eqb}
 use lib.Dec.{eqb}
-use lib.ListN.{length, take, drop, length-append, length-take, length-drop, length-map}
+use lib.ListN.{length, take, drop, length-append, length-take, length-drop}
 use Rattle.rules.specs.Base.{Bytes, _⇒_, every, ascii, null, any, isNone, same, member, if_then_else_}
-use Rattle.rules.specs.Cutting.{field, split, pieces, segments}
+use Rattle.rules.specs.Cutting.{field, split, segments}
 use Rattle.rules.specs.Numbers.{decimal}
 use Rattle.rules.specs.Tables.{Table, tableOf}
 use Rattle.rules.specs.Segments.{Note}
@@ -39,21 +39,23 @@ use Rattle.acknowledgment.specs.Writers.{TellsFrom, tableWith}
 use Rattle.acknowledgment.specs.Surveys.{setHere, acceptance}
 
 -- 1. The parts of a set.
--- These are the bytes of a set, of its header and, where it is closed, of its trailer.
-pub record Parts (d : Delimiters) (s : Set) (closed : Bool) (bs st se : Bytes) : Type 0 where
+-- These are the bytes of a set of n segments, of its header and, where it is closed, of its trailer.
+pub record Parts (d : Delimiters) (s : Set) (closed : Bool) (n : ℕ) (bs st se : Bytes) : Type 0 where
   pub whole : segmentsOf s ≡ segments d bs
   pub header : split (d .element) st ≡ s .header
   pub trailer : trailerIf closed (split (d .element) se) ≡ s .trailer
+  pub counted : n ≡ length (segmentsOf s)
   pub short : length bs < 9223372036854775808
 
 -- the parts at a place
 pub parts-at : {d : Delimiters} {body bs st se : Bytes} {at : ℕ} {r : SetAt} → SetIs d body at r → length body < 9223372036854775808
     → bs ≡ take (r .end - at) (drop at body) → st ≡ take (r .header - at) (drop at body) → se ≡ take (r .end - 1 - r .trailer) (drop (r .trailer) body)
-    → Parts d (setIn d body at r) (r .closed) bs st se
+    → Parts d (setIn d body at r) (r .closed) (r .segments) bs st se
 parts-at {r = r} is small p q t = record {
   whole = rw p (is .whole);
   header = rw q (sym (is .header));
   trailer = sym (trailer-if _ (r .closed) _ (rw (is .closed) (sym (Bool·not-not (r .closed)))) (λ k. is .trailer ∙ rw (k, t)));
+  counted = is .counted;
   short = rw p (simp (length-take, length-drop) (omega arith));
 }
 
@@ -120,7 +122,7 @@ notes-reject t ns s =
     go false false false false true = refl
     go false false false false false = refl
 
-module _ {d : Delimiters} {s : Set} {closed : Bool} {bs st se : Bytes} (parts : Parts d s closed bs st se)
+module _ {d : Delimiters} {s : Set} {closed : Bool} {n : ℕ} {bs st se : Bytes} (parts : Parts d s closed n bs st se)
     (ids : List (List ℕ)) {rows : Guide} (limits : Limits rows) where
   abbrev notes : Bool → List Note
   notes supported = notesIn d (tableIf supported (tableOf ids rows)) s
@@ -139,18 +141,14 @@ module _ {d : Delimiters} {s : Set} {closed : Bool} {bs st se : Bytes} (parts : 
   -- the codes as collected by the parts
   abbrev codesBy : Bool → Bool → Bool → Codes
   codesBy supported noted repeated =
-      collected
-      (setCodeRules supported (split (d .element) st) (trailerIf closed (split (d .element) se)) (length (pieces (d .terminator) bs)) noted repeated)
+      collected (setCodeRules supported (split (d .element) st) (trailerIf closed (split (d .element) se)) n noted repeated)
 
   -- are the set's
   codes-are : (supported : Bool) (ns : List Note) (earlier : List Bytes) {codes : Codes} {noted repeated : Bool} → noted ≡ not (null ns)
       → repeated ≡ member (controlOf s) earlier → codes ≡ codesBy supported noted repeated
       → codesOf codes ≡ setCodes (tableIf supported (tableOf ids rows)) ns earlier s
-  unfolding segments
   codes-are supported ns earlier e g f =
-      rw f
-      (set-codes _ ns earlier s (has-table supported (tableOf ids rows)) (parts .header) (parts .trailer)
-      (sym (ap length (parts .whole) ∙ length-map (pieces (d .terminator) bs) (split (d .element)))) e g)
+      rw f (set-codes _ ns earlier s (has-table supported (tableOf ids rows)) (parts .header) (parts .trailer) (parts .counted) e g)
 
   -- no code but 5 and 23, and no note
   clean-by : (supported : Bool) {fine r : Bool} {codes : Codes} → codes ≡ codesBy supported false false → fine ≡ null (codesOf codes)
@@ -173,17 +171,17 @@ module _ {d : Delimiters} {s : Set} {closed : Bool} {bs st se : Bytes} (parts : 
   clean-is known {supported} e f g h = let which = rw (parts .header) at e in rw (← which) (clean-by supported f g h)
 
   -- what is written of a set by its parts is the block of its report
-  pub block-of : (known : Bool) (earlier : List Bytes) {supported repeated : Bool} {codes : Codes} {told : Told} {n l m : ℕ} {o o₁ o₂ o₃ : Bytes}
+  pub block-of : (known : Bool) (earlier : List Bytes) {supported repeated : Bool} {codes : Codes} {told : Told} {k l m : ℕ} {o o₁ o₂ o₃ : Bytes}
       → supported ≡ known && same (field (split (d .element) st) 1) (ascii "990")
-      → From 0 (segmentOut d (ascii "AK2" ∷ field (split (d .element) st) 1 ∷ field (split (d .element) st) 2 ∷ [])) n o o₁
-      → TellsFrom n d (if supported then map written (events (left bs d ids rows closed start)) else []) told o₁ o₂
+      → From 0 (segmentOut d (ascii "AK2" ∷ field (split (d .element) st) 1 ∷ field (split (d .element) st) 2 ∷ [])) k o o₁
+      → TellsFrom k d (if supported then map written (events (left bs d ids rows closed start)) else []) told o₁ o₂
       → codes ≡ codesBy supported (not (eqb (told .segments) 0)) repeated
       → From (told .length) (segmentOut d (ascii "AK5" ∷ (if null (codesOf codes) then ascii "A" else ascii "R") ∷ map decimal (codesOf codes))) l o₂ o₃
       → m ≡ sat (told .segments + 2) → repeated ≡ member (controlOf s) earlier
       → Tells d (block (setReport d (tableWith known (tableOf ids rows) s) earlier s)) (record { length = l; segments = m }) o o₃
   unfolding setReport ak2 ak5
-  block-of known earlier {supported} {codes = codes} e a b f c g k =
+  block-of known earlier {supported} {codes = codes} e a b f c g r =
       let tells = rw (notes-are supported) at b in
-      let same-codes = codes-are supported (notes supported) earlier (are-notes (notes supported) (tells .number)) k f in
+      let same-codes = codes-are supported (notes supported) earlier (are-notes (notes supported) (tells .number)) r f in
       let which = rw (parts .header) at e in
       rw (← which) (block-written _ (rw (parts .header) at a) tells (rw same-codes at c) g)

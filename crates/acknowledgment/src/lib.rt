@@ -93,8 +93,16 @@ fn is_clean(
     let trailer = sets::part(body, place.trailer, place.end - 1);
     let closed = place.closed;
     let supported = known && verdicts::is_load_response(segments::field(header, d.element, 1));
-    let count = segments::segment_count(set, d.terminator);
-    let codes = verdicts::set_codes(supported, closed, trailer, header, d, count, false, false);
+    let codes = verdicts::set_codes(
+        supported,
+        closed,
+        trailer,
+        header,
+        d,
+        place.segments,
+        false,
+        false,
+    );
     codes.is_empty() && !findings::is_noted(set, d, directory, guide, closed)
 }
 
@@ -222,7 +230,7 @@ fn put_rejected(
         trailer,
         header,
         d,
-        segments::segment_count(set, d.terminator),
+        place.segments,
         told.segments != 0,
         repeated,
     );

@@ -39,7 +39,6 @@ use Rattle.segments.proofs.id.Reads as segments-id
 use Rattle.segments.proofs.is_named.Reads as segments-is-named
 use Rattle.segments.proofs.is_present.Reads as segments-is-present
 use Rattle.segments.proofs.field_count.Reads as segments-field-count
-use Rattle.segments.proofs.segment_count.Reads as segments-segment-count
 use Rattle.frame.proofs.frame_of.Reads as frame-frame-of
 use Rattle.headers.proofs.trailer_refusal.Reads as headers-trailer-refusal
 use Rattle.headers.proofs.header_refusal.Reads as headers-header-refusal
@@ -240,9 +239,6 @@ segments-is-present-once κs a r₁ r₂ s₁ s₂ p q = p ∙ sym q
 
 segments-field-count-once : Once segments-field-count.Post (λ κs r s. r)
 segments-field-count-once κs a r₁ r₂ s₁ s₂ p q = p ∙ sym q
-
-segments-segment-count-once : Once segments-segment-count.Post (λ κs r s. r)
-segments-segment-count-once κs a r₁ r₂ s₁ s₂ p q = p ∙ sym q
 
 -- frame
 frame-frame-of-once : Once frame-frame-of.Post (λ κs r s. r)

@@ -74,16 +74,3 @@ pub fn field_count(s: &[u8], e: u8) -> usize
     }
     n
 }
-
-// How many segments there are; bytes after the last terminator are one too.
-pub fn segment_count(s: &[u8], t: u8) -> usize
-    ensures { λ r. ⌜ r ≡ length (cutting.pieces t (now (s .entry))) ⌝ }
-{
-    let mut n: usize = 0;
-    let mut at = 0;
-    while at < s.len() {
-        at = text::find(s, at, t) + 1;
-        n += 1;
-    }
-    n
-}

@@ -30,8 +30,8 @@ closes : (b : Bool) (s : Segment) → isNone (if b then some s else none) ≡ no
 closes true s = refl
 closes false s = refl
 
--- 1. What follows a header: the segments left at a place, where the set goes on from start.
-record Follows (d : Delimiters) (body : Bytes) (start header at : ℕ) (r : SetAt) : Type 0 where
+-- 1. What follows a header: the segments left at a place, where the set goes on from start with n segments before it.
+record Follows (d : Delimiters) (body : Bytes) (start header n at : ℕ) (r : SetAt) : Type 0 where
   others : setsOf (segments d (drop at body)) ≡ setsOf (segments d (drop (r .end) body))
   whole : segments d (take (r .end - start) (drop start body))
       ≡ segments d (take (at - start) (drop start body))
@@ -39,49 +39,52 @@ record Follows (d : Delimiters) (body : Bytes) (start header at : ℕ) (r : SetA
   trailer : trailerOf (segments d (drop at body)) ≡ trailerIn d body r
   strays : stray true (segments d (drop at body)) ≡ stray false (segments d (drop (r .end) body))
   headed : r .header ≡ header
+  counted : r .segments ≡ n + length (bodyOf (segments d (drop at body)) ++ listed (trailerOf (segments d (drop at body))))
   onward : at ≤ r .end
   within : r .end ≤ length body + 1
 
 module _ (d : Delimiters) (body : Bytes) (start header : ℕ) where
   -- the set goes on at a place
-  abbrev from : ℕ → SetAt
-  from at = setFrom (d .element) header at (pieces (d .terminator) (drop at body))
+  abbrev from : ℕ → ℕ → SetAt
+  from n at = setFrom (d .element) header n at (pieces (d .terminator) (drop at body))
 
-  abbrev Goes : ℕ → Type 0
-  Goes at = Follows d body start header at (from at)
+  abbrev Goes : ℕ → ℕ → Type 0
+  Goes n at = Follows d body start header n at (from n at)
 
-  follows-none : (at : ℕ) → length body ≤ at → at ≤ length body + 1 → Follows d body start header at (unclosedAt header at)
+  follows-none : (n at : ℕ) → length body ≤ at → at ≤ length body + 1 → Follows d body start header n at (unclosedAt header n at)
   unfolding bodyOf trailerOf stray
-  follows-none at k l = record {
+  follows-none n at k l = record {
     others = refl;
     whole = rw (segments-none d body at k) (sym (append-nil _));
     trailer = rw (segments-none d body at k);
     strays = rw (segments-none d body at k);
     headed = refl;
+    counted = rw (segments-none d body at k) (omega arith);
     onward = omega arith;
     within = l;
   }
 
-  module _ (at end : ℕ) (h : at < length body) (q : end ≡ at + indexOf (d .terminator) (drop at body)) (w : WholePart (d .terminator) body start at) where
+  module _ (n at end : ℕ) (h : at < length body) (q : end ≡ at + indexOf (d .terminator) (drop at body)) (w : WholePart (d .terminator) body start at) where
     abbrev here : Segment
     here = split (d .element) (take (end - at) (drop at body))
 
-    follows-SE : isSE here ≡ true → Follows d body start header at (closedAt header at (end + 1))
+    follows-SE : isSE here ≡ true → Follows d body start header n at (closedAt header (n + 1) at (end + 1))
     unfolding bodyOf trailerOf setsOf stray
     follows-SE p =
         let back : end + 1 - 1 ≡ end = omega arith in
-        let n = SE-ST here p in
+        let g = SE-ST here p in
         record {
-          others = rw (segments-at d body at end h q, n);
-          whole = rw (segments-at d body at end h q, n, p) (segments-part d w h q);
+          others = rw (segments-at d body at end h q, g);
+          whole = rw (segments-at d body at end h q, g, p) (segments-part d w h q);
           trailer = rw (segments-at d body at end h q, p, back);
-          strays = rw (segments-at d body at end h q, n, p);
+          strays = rw (segments-at d body at end h q, g, p);
           headed = refl;
+          counted = rw (segments-at d body at end h q, g, p);
           onward = omega arith;
           within = let l = find-end (d .terminator) body at end q h in omega arith;
         }
 
-    follows-ST : isSE here ≡ false → isST here ≡ true → Follows d body start header at (unclosedAt header at)
+    follows-ST : isSE here ≡ false → isST here ≡ true → Follows d body start header n at (unclosedAt header n at)
     unfolding bodyOf trailerOf stray
     follows-ST p g = record {
       others = refl;
@@ -89,11 +92,12 @@ module _ (d : Delimiters) (body : Bytes) (start header : ℕ) where
       trailer = rw (segments-at d body at end h q, p, g);
       strays = rw (segments-at d body at end h q, g);
       headed = refl;
+      counted = rw (segments-at d body at end h q, p, g) (omega arith);
       onward = omega arith;
       within = omega arith;
     }
 
-    follows-other : isSE here ≡ false → isST here ≡ false → (r : SetAt) → Follows d body start header (end + 1) r → Follows d body start header at r
+    follows-other : isSE here ≡ false → isST here ≡ false → (r : SetAt) → Follows d body start header (n + 1) (end + 1) r → Follows d body start header n at r
     unfolding bodyOf trailerOf setsOf stray
     follows-other p g r f = record {
       others = rw (segments-at d body at end h q, g) (f .others);
@@ -101,34 +105,35 @@ module _ (d : Delimiters) (body : Bytes) (start header : ℕ) where
       trailer = rw (segments-at d body at end h q, p, g) (f .trailer);
       strays = rw (segments-at d body at end h q, p, g) (f .strays);
       headed = f .headed;
+      counted = rw (segments-at d body at end h q, p, g) (omega (arith, f .counted));
       onward = omega (arith, f .onward);
       within = f .within;
     }
 
-    follows-here : (se st : Bool) → isSE here ≡ se → isST here ≡ st → Goes (end + 1) → Goes at
-    follows-here true st p g f = rw (set-goes (d .terminator) body at end h q (d .element) header true st p g) (follows-SE p)
-    follows-here false true p g f = rw (set-goes (d .terminator) body at end h q (d .element) header false true p g) (follows-ST p g)
+    follows-here : (se st : Bool) → isSE here ≡ se → isST here ≡ st → Goes (n + 1) (end + 1) → Goes n at
+    follows-here true st p g f = rw (set-goes (d .terminator) body at end h q (d .element) header n true st p g) (follows-SE p)
+    follows-here false true p g f = rw (set-goes (d .terminator) body at end h q (d .element) header n false true p g) (follows-ST p g)
     follows-here false false p g f =
-        rw (set-goes (d .terminator) body at end h q (d .element) header false false p g) (follows-other p g (from (end + 1)) f)
+        rw (set-goes (d .terminator) body at end h q (d .element) header n false false p g) (follows-other p g (from (n + 1) (end + 1)) f)
 
-  goes-none : (at : ℕ) → length body ≤ at → at ≤ length body + 1 → Goes at
-  goes-none at k l = rw (set-ends (d .terminator) body at k (d .element) header) (follows-none at k l)
+  goes-none : (n at : ℕ) → length body ≤ at → at ≤ length body + 1 → Goes n at
+  goes-none n at k l = rw (set-ends (d .terminator) body at k (d .element) header n) (follows-none n at k l)
 
-  goes : (n at : ℕ) → length body ≤ at + n → at ≤ length body + 1 → WholePart (d .terminator) body start at → Goes at
-  goes zero at k l w = goes-none at (omega arith) l
-  goes (suc n) at k l w = go (ltb at (length body)) refl (goes n)
+  goes : (fuel n at : ℕ) → length body ≤ at + fuel → at ≤ length body + 1 → WholePart (d .terminator) body start at → Goes n at
+  goes zero n at k l w = goes-none n at (omega arith) l
+  goes (suc fuel) n at k l w = go (ltb at (length body)) refl (goes fuel)
     where
       end : ℕ
       end = at + indexOf (d .terminator) (drop at body)
 
       go : (c : Bool) → ltb at (length body) ≡ c
-          → ((next : ℕ) → length body ≤ next + n → next ≤ length body + 1 → WholePart (d .terminator) body start next → Goes next) → Goes at
+          → ((m next : ℕ) → length body ≤ next + fuel → next ≤ length body + 1 → WholePart (d .terminator) body start next → Goes m next) → Goes n at
       go true c f =
           let h = ltb-true at (length body) c in
           let i = find-end (d .terminator) body at end refl h in
-          follows-here at end h refl w (isSE (here at end h refl w)) (isST (here at end h refl w)) refl refl
-          (f (end + 1) (omega arith) (omega arith) (whole-next w h refl))
-      go false c f = goes-none at (ltb-false at (length body) c) l
+          follows-here n at end h refl w (isSE (here n at end h refl w)) (isST (here n at end h refl w)) refl refl
+          (f (n + 1) (end + 1) (omega arith) (omega arith) (whole-next w h refl))
+      go false c f = goes-none n at (ltb-false at (length body) c) l
 
 -- 2. The set at a place.
 -- the set that a place in the bytes names
@@ -148,6 +153,7 @@ pub record SetIs (d : Delimiters) (body : Bytes) (at : ℕ) (r : SetAt) : Type 0
   pub header : setIn d body at r .header ≡ split (d .element) (take (r .header - at) (drop at body))
   pub trailer : setIn d body at r .trailer ≡ trailerIn d body r
   pub closed : isNone (setIn d body at r .trailer) ≡ not (r .closed)
+  pub counted : r .segments ≡ length (segmentsOf (setIn d body at r))
   pub control : controlOf (setIn d body at r) ≡ controlAt d body at
   pub strays : stray false (segments d (drop at body)) ≡ stray false (segments d (drop (r .end) body))
   pub onward : at < r .end
@@ -163,15 +169,15 @@ clean-starts s ss e = go (isST s) (or-left (not (isST s) && true) _ e)
     go false h = absurd (true≢false h)
 
 module _ (d : Delimiters) (body : Bytes) (at : ℕ) (r : SetAt) (h : at < length body) (q : r ≡ setAt d body at) where
-  opened : Follows d body at (at + indexOf (d .terminator) (drop at body)) (at + indexOf (d .terminator) (drop at body) + 1) r
+  opened : Follows d body at (at + indexOf (d .terminator) (drop at body)) 1 (at + indexOf (d .terminator) (drop at body) + 1) r
   opened =
       let end = at + indexOf (d .terminator) (drop at body) in
       let i = find-end (d .terminator) body at end refl h in
       rw (q, set-opens d body at end h refl)
-      (goes d body at end (length body) (end + 1) (omega arith) (omega arith) (whole-next whole-empty h refl))
+      (goes d body at end (length body) 1 (end + 1) (omega arith) (omega arith) (whole-next whole-empty h refl))
 
-  after : Follows d body at (r .header) (r .header + 1) r
-  after = subst⁻¹ (λ (n : ℕ). Follows d body at n (n + 1) r) (opened .headed) opened
+  after : Follows d body at (r .header) 1 (r .header + 1) r
+  after = subst⁻¹ (λ (n : ℕ). Follows d body at n 1 (n + 1) r) (opened .headed) opened
 
   -- the segment at the place
   pub header-at : segments d (drop at body) ≡ split (d .element) (take (r .header - at) (drop at body)) ∷ segments d (drop (r .header + 1) body)
@@ -185,6 +191,7 @@ module _ (d : Delimiters) (body : Bytes) (at : ℕ) (r : SetAt) (h : at < length
     header = refl;
     trailer = after .trailer;
     closed = rw (after .trailer) (closes (r .closed) _);
+    counted = omega (arith, after .counted);
     control = sym (control-is d body at (r .header) (opened .headed));
     strays = rw (header-at, st) (after .strays);
     onward = omega (arith, after .onward, opened .headed);

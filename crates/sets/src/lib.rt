@@ -18,28 +18,32 @@ pub struct SetAt {
     pub end: usize,
     // There is a trailer.
     pub closed: bool,
+    // How many segments there are, from header to trailer.
+    pub segments: usize,
 }
 
 impl SetAt {
-    fn with_trailer(header: usize, trailer: usize, end: usize) -> Self
-        ensures { λ r. ⌜ r ≡ closedAt header trailer end ⌝ }
+    fn with_trailer(header: usize, segments: usize, trailer: usize, end: usize) -> Self
+        ensures { λ r. ⌜ r ≡ closedAt header segments trailer end ⌝ }
     {
         Self {
             header,
             trailer,
             end,
             closed: true,
+            segments,
         }
     }
 
-    fn without_trailer(header: usize, end: usize) -> Self
-        ensures { λ r. ⌜ r ≡ unclosedAt header end ⌝ }
+    fn without_trailer(header: usize, segments: usize, end: usize) -> Self
+        ensures { λ r. ⌜ r ≡ unclosedAt header segments end ⌝ }
     {
         Self {
             header,
             trailer: end,
             end,
             closed: false,
+            segments,
         }
     }
 }
@@ -49,22 +53,24 @@ pub fn next_set(body: &[u8], d: Delimiters, at: usize) -> SetAt
     ensures { λ r. ⌜ r ≡ setAt d (now (body .entry)) at ⌝ }
 {
     if body.len() <= at {
-        return SetAt::without_trailer(at, at);
+        return SetAt::without_trailer(at, 0, at);
     }
     let header = text::find(body, at, d.terminator);
+    let mut segments: usize = 1;
     let mut next = header + 1;
     while next < body.len() {
         let end = text::find(body, next, d.terminator);
         let segment = &body[next..end];
         if segments::is_named(segment, d.element, &rules::SE) {
-            return SetAt::with_trailer(header, next, end + 1);
+            return SetAt::with_trailer(header, segments + 1, next, end + 1);
         }
         if segments::is_named(segment, d.element, &rules::ST) {
-            return SetAt::without_trailer(header, next);
+            return SetAt::without_trailer(header, segments, next);
         }
+        segments += 1;
         next = end + 1;
     }
-    SetAt::without_trailer(header, next)
+    SetAt::without_trailer(header, segments, next)
 }
 
 // The bytes from `from` up to `to`, those that there are.

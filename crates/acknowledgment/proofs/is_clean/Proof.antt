@@ -10,8 +10,7 @@ use Rattle.acknowledgment.proofs.is_clean.Tie as tie
 returns : tie.Need-returns
 returns c =
     let empty = c .before .before in
-    let count = empty .before .before in
-    let test = count .before in
+    let test = empty .before .before in
     let trailer = test .before in
     let header = trailer .before .before in
     let set = header .before in
@@ -23,15 +22,14 @@ returns c =
     (entry .pre .1 .1)
     (entry .args .known)
     (⊎-elim (λ w. rw (w .0 .taken, ← w .1 .ensures) (w .3 ∙ w .2 .ensures)) (λ w. rw (w .0 .left) (w .1 ∙ w .0 .left)) (test .if1 .came))
-    (rw (count .segment-count .ensures) at (empty .before .set-codes .ensures))
+    (empty .before .set-codes .ensures)
     (empty .is-empty .ensures)
     (rw (c .before .if2 .taken, c .is-noted .ensures)))
 
 returns-2 : tie.Need-returns-2
 returns-2 c =
     let empty = c .before in
-    let count = empty .before .before in
-    let test = count .before in
+    let test = empty .before .before in
     let trailer = test .before in
     let header = trailer .before .before in
     let set = header .before in
@@ -43,7 +41,7 @@ returns-2 c =
     (entry .pre .1 .1)
     (entry .args .known)
     (⊎-elim (λ w. rw (w .0 .taken, ← w .1 .ensures) (w .3 ∙ w .2 .ensures)) (λ w. rw (w .0 .left) (w .1 ∙ w .0 .left)) (test .if1 .came))
-    (rw (count .segment-count .ensures) at (empty .before .set-codes .ensures))
+    (empty .before .set-codes .ensures)
     (empty .is-empty .ensures)
     (rw (c .if2 .left)))
 
@@ -54,7 +52,6 @@ is-clean-spec =
     (λ c κs. search needs)
     (λ c κs. search needs)
     (λ c. search needs)
-    (λ c κs. search needs)
     (λ c κs. search needs)
     (λ c κs. search needs)
     (λ c κs. search needs)

@@ -22,8 +22,7 @@ returns : tie.Need-returns
 returns c =
     let ak5 = c .before .before .before in
     let codes = ak5 .before .before .before .before .before in
-    let count = codes .before .before in
-    let notes = count .before .before .before in
+    let notes = codes .before .before .before .before in
     let ak2 = notes .before .before .before .before in
     let test = ak2 .before .before in
     let trailer = test .before in
@@ -43,7 +42,7 @@ returns c =
     (⊎-elim (λ w. rw (w .0 .taken, ← w .1 .ensures) (w .3 ∙ w .2 .ensures)) (λ w. rw (w .0 .left) (w .1 ∙ w .0 .left)) (test .if1 .came))
     (ak2 .add-ak2 .ensures)
     (notes .add-notes .ensures)
-    (rw (count .segment-count .ensures) at (codes .set-codes .ensures))
+    (codes .set-codes .ensures)
     (rw sub-zero at (ak5 .add-ak5 .ensures))
     (c .joined .ensures)
     (rw (← at-place) at k))
@@ -56,7 +55,6 @@ put-rejected-spec =
     (λ c κs. search needs)
     (λ c κs. search needs)
     sub-part
-    (λ c κs. search needs)
     (λ c κs. search needs)
     (λ c κs. search needs)
     (λ c κs. search needs)

@@ -13,11 +13,11 @@ use Rattle.sets.proofs.next_set.Statement.{statement}
 use Rattle.sets.proofs.next_set.Tie as tie
 
 abbrev Inv-loop : tie.InvT-loop
-Inv-loop body d at header next₀ t8 t9 next =
-    (next ≤ length body + 1) × (setAt d body at ≡ setFrom (d .element) header next (pieces (d .terminator) (drop next body)))
+Inv-loop body d at header segments₀ next₀ t8 t9 segments next =
+    (next ≤ length body + 1) × ((segments ≤ next) × (setAt d body at ≡ setFrom (d .element) header segments next (pieces (d .terminator) (drop next body))))
 
 abbrev μ-loop : tie.MeasureT-loop
-μ-loop body d at header next₀ t8 t9 next = length body + 1 - next
+μ-loop body d at header segments₀ next₀ t8 t9 segments next = length body + 1 - next
 
 without-trailer-requires : tie.Need-without-trailer-requires Inv-loop μ-loop
 without-trailer-requires c κs = search needs
@@ -34,7 +34,7 @@ add-next c = let within = find-end _ _ _ _ (c .find .ensures) (c .before .if1 .l
 loop-holds : tie.Need-loop-holds Inv-loop μ-loop
 loop-holds c =
     let within = find-end _ _ _ _ (c .find .ensures) (c .before .if1 .left) in
-    (omega arith, set-opens _ _ _ _ (c .before .if1 .left) (c .find .ensures))
+    (omega arith, (omega arith, set-opens _ _ _ _ (c .before .if1 .left) (c .find .ensures)))
 
 find-requires-2 : tie.Need-find-requires-2 Inv-loop μ-loop
 find-requires-2 c κs = search needs
@@ -55,7 +55,10 @@ is-named-requires : tie.Need-is-named-requires Inv-loop μ-loop
 is-named-requires c κs = search needs
 
 add-with-trailer : tie.Need-add-with-trailer Inv-loop μ-loop
-add-with-trailer c =
+add-with-trailer c = omega (arith, c .before .before .before .before .before .before .loop .inv .1 .0)
+
+add-with-trailer-2 : tie.Need-add-with-trailer-2 Inv-loop μ-loop
+add-with-trailer-2 c =
     let f = c .before .before .before .before in
     let within = find-end _ _ _ _ (f .find2 .ensures) (f .before .loop-test .taken) in
     omega arith
@@ -68,7 +71,7 @@ returns-2 c =
     let f = c .before .before .before .before .before in
     let trailer = sym (c .before .before .is-named .ensures) ∙ c .before .if2 .taken in
     c .with-trailer .ensures
-    ∙ sym (f .before .before .loop .inv .1 ∙ set-goes _ _ _ _ (f .before .loop-test .taken) (f .find2 .ensures) _ _ true _ trailer refl)
+    ∙ sym (f .before .before .loop .inv .1 .1 ∙ set-goes _ _ _ _ (f .before .loop-test .taken) (f .find2 .ensures) _ _ _ true _ trailer refl)
 
 slice-aggregate-is-named-2 : tie.Need-slice-aggregate-is-named-2 Inv-loop μ-loop
 slice-aggregate-is-named-2 c = search needs
@@ -85,7 +88,10 @@ returns-3 c =
     let trailer = sym (c .before .before .before .before .before .is-named .ensures) ∙ c .before .before .before .before .if2 .left in
     let header = sym (c .before .before .is-named2 .ensures) ∙ c .before .if3 .taken in
     c .without-trailer2 .ensures
-    ∙ sym (f .before .before .loop .inv .1 ∙ set-goes _ _ _ _ (f .before .loop-test .taken) (f .find2 .ensures) _ _ false true trailer header)
+    ∙ sym (f .before .before .loop .inv .1 .1 ∙ set-goes _ _ _ _ (f .before .loop-test .taken) (f .find2 .ensures) _ _ _ false true trailer header)
+
+add-segments : tie.Need-add-segments Inv-loop μ-loop
+add-segments c = omega (arith, c .before .before .before .before .before .before .before .before .before .loop .inv .1 .0)
 
 add-next-2 : tie.Need-add-next-2 Inv-loop μ-loop
 add-next-2 c =
@@ -103,14 +109,17 @@ loop-again c =
     let trailer = sym (c .before .before .before .before .is-named .ensures) ∙ c .before .before .before .if2 .left in
     let header = sym (c .before .is-named2 .ensures) ∙ c .if3 .left in (
       omega arith,
-      f .before .before .loop .inv .1 ∙ set-goes _ _ _ _ (f .before .loop-test .taken) (f .find2 .ensures) _ _ false false trailer header,
+      (
+        omega (arith, f .before .before .loop .inv .1 .0),
+        f .before .before .loop .inv .1 .1 ∙ set-goes _ _ _ _ (f .before .loop-test .taken) (f .find2 .ensures) _ _ _ false false trailer header,
+      ),
     )
 
 without-trailer-requires-3 : tie.Need-without-trailer-requires-3 Inv-loop μ-loop
 without-trailer-requires-3 c κs = search needs
 
 returns-4 : tie.Need-returns-4 Inv-loop μ-loop
-returns-4 c = c .without-trailer3 .ensures ∙ sym (c .before .before .loop .inv .1 ∙ set-ends _ _ _ (c .before .loop-test .left) _ _)
+returns-4 c = c .without-trailer3 .ensures ∙ sym (c .before .before .loop .inv .1 .1 ∙ set-ends _ _ _ (c .before .loop-test .left) _ _ _)
 
 pub next-set-spec : {M : Type 1} → statement M
 next-set-spec =
@@ -130,12 +139,14 @@ next-set-spec =
     slice-aggregate-is-named
     is-named-requires
     add-with-trailer
+    add-with-trailer-2
     with-trailer-requires
     returns-2
     slice-aggregate-is-named-2
     is-named-requires-2
     without-trailer-requires-2
     returns-3
+    add-segments
     add-next-2
     loop-less
     loop-again
