@@ -57,9 +57,7 @@ extern "C" {
  * A call allocates nothing, takes less than 48 KiB of stack, keeps nothing and
  * reads nothing but what it is lent: threads may call at the same time, each
  * with a buffer of its own. The interchange is not changed. The time grows with
- * the length of the interchange (docs/PERFORMANCE.md), but for thousands of
- * control numbers that are chosen to be slow, where it grows with the square of
- * their number, to half a second.
+ * the length of the interchange (docs/PERFORMANCE.md).
  */
 uint32_t x12_acknowledge(const uint8_t *interchange, size_t interchange_length,
                          uint8_t *response, size_t response_length,

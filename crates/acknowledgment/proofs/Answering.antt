@@ -1,17 +1,17 @@
 -- From the writer of the response to the answer: the two passes, what an interchange without a refusal gives the writer, and the outcome.
 use mathlib.Core.Path.{_≡_, refl, _∙_}
 use mathlib.Core.Bool.{Bool, false, _&&_}
-use mathlib.Core.List.{List}
+use mathlib.Core.List.{[], _∷_}
 use mathlib.Core.Option.{Option, none}
 use Prim.Native.Nat.{ℕ, _≤_, _<_}
 use native.Mathlib.Omega.{arith}
 use borrow.Author.Tests.{ne-eqb, le-leb, lt-leb, not-false, leb-true}
 use borrow.Rule.Slice.PartMut.{midOf, putMid}
 use lib.Dec.{leb}
-use lib.ListN.{length}
-use Rattle.rules.specs.Base.{Bytes, ascii, same}
+use lib.ListN.{length, take}
+use Rattle.rules.specs.Base.{Bytes, ascii, same, member}
 use Rattle.rules.specs.Cutting.{Segment, field, delimiters, split, segments}
-use Rattle.rules.specs.Tables.{Table, tableOf}
+use Rattle.rules.specs.Tables.{Table}
 use Rattle.rules.specs.Sets.{Set}
 use Rattle.rules.specs.Groups.{groupOf, supported, edition, tableIn, groupReport}
 use Rattle.rules.specs.Refusals.{headRules, refusal}
@@ -24,13 +24,14 @@ use Rattle.rules.proofs.Bound.{response-bound}
 use Rattle.rules.proofs.Lengths.{either, out-cons, length-out-append}
 use Rattle.rules.proofs.Logic.{and-right, silent}
 use Rattle.tables.specs.Reading.{Guide, Limits}
-use Rattle.guides.specs.Encoded.{guide006010, guide004010, directoryRows}
+use Rattle.guides.specs.Encoded.{guide006010, guide004010}
 use Rattle.guides.proofs.Editions.{means-006010, means-004010, limits-006010, limits-004010}
 use Rattle.frame.specs.Places.{part}
 use Rattle.frame.specs.declared.Frame.{Frame}
 use Rattle.frame.proofs.Laws.{FrameIs}
 use Rattle.sets.proofs.Refused.{passed}
 use Rattle.verdicts.specs.Verdicts.{editionIn}
+use Rattle.verdicts.specs.declared.Edition.{Edition}
 use Rattle.verdicts.specs.declared.Edition.the-variants.{E006010, E004010, Other}
 use Rattle.verdicts.proofs.Laws.{table-in}
 use Rattle.refusals.specs.Checks.{checked}
@@ -59,25 +60,34 @@ module _ (o : Bytes) {t p : Bytes} {n : ℕ} (first : Wrote t n (midOf 0 0 o) p)
       (rw (le-leb (length t) (length o) fits, e), second .bytes ∙ rw (measured o first, e) (over-fits t o fits))
 
 -- 2. These rows, or none, are the table of each set of a group with this GS.
-pub record Decides (gs : Segment) (ids : List (List ℕ)) (rows : Guide) (known : Bool) : Type 0 where
+pub record Decides (gs : Segment) (rows : Guide) (known : Bool) : Type 0 where
   pub limits : Limits rows
-  pub table : (s : Set) → tableIn gs s ≡ tableWith known (tableOf ids rows) s
+  pub table : (s : Set) → tableIn gs s ≡ tableWith known rows s
 
--- the rows of the edition, where the group is supported
-module _ {gs : Segment} {ids : List (List ℕ)} {rows : Guide} {known : Bool} (named : ids ≡ directoryRows) where
-  pub by-006010 : rows ≡ guide006010 → known ≡ supported gs → E006010 ≡ editionIn (edition gs) → Decides gs ids rows known
-  by-006010 r k e = record { limits = rw r limits-006010; table = λ s. table-in gs s ∙ rw (← e, k, named, r, means-006010) }
+-- What is read of a GS: whether it is supported, and its edition.
+pub record Headed (gs : Segment) (known : Bool) (e : Edition) : Type 0 where
+  pub supports : known ≡ supported gs
+  pub names : e ≡ editionIn (edition gs)
 
-  pub by-004010 : rows ≡ guide004010 → known ≡ supported gs → E004010 ≡ editionIn (edition gs) → Decides gs ids rows known
-  by-004010 r k e = record { limits = rw r limits-004010; table = λ s. table-in gs s ∙ rw (← e, k, named, r, means-004010) }
+-- by its bytes and its fields
+pub headed : (e : ℕ) {gs here first eighth : Bytes} {known : Bool} {named : Edition} → gs ≡ here
+    → first ≡ field (split e gs) 1 → known ≡ member first (ascii "GF" ∷ ascii "SM" ∷ [])
+    → eighth ≡ field (split e gs) 8 → named ≡ editionIn (take 6 eighth) → Headed (split e here) known named
+headed e p f k g n = record { supports = k ∙ rw (f, p); names = n ∙ rw (g, p) }
 
--- for any other edition there is none
-pub by-none : {gs : Segment} {ids : List (List ℕ)} {rows : Guide} → rows ≡ guide004010 → Other ≡ editionIn (edition gs) → Decides gs ids rows false
-by-none {gs} {ids} {rows} r e =
-    record {
-      limits = rw r limits-004010;
-      table = λ s. table-in gs s ∙ rw (← e) (either (λ (t : Option Table). t ≡ none) (supported gs && same (field (s .header) 1) (ascii "990")) refl refl);
-    }
+-- the rows of the edition, where the group is supported; for any other edition there are none
+module _ {gs : Segment} {rows : Guide} {known : Bool} {e : Edition} (h : Headed gs known e) where
+  pub by-006010 : e ≡ E006010 → rows ≡ guide006010 → Decides gs rows known
+  by-006010 t r = record { limits = rw r limits-006010; table = λ s. table-in gs s ∙ rw (← h .names, t, ← h .supports, r, means-006010) }
+
+  pub by-004010 : e ≡ E004010 → rows ≡ guide004010 → Decides gs rows known
+  by-004010 t r = record { limits = rw r limits-004010; table = λ s. table-in gs s ∙ rw (← h .names, t, ← h .supports, r, means-004010) }
+
+  pub by-none : e ≡ Other → rows ≡ guide004010 → Decides gs rows false
+  by-none t r = record {
+    limits = rw r limits-004010;
+    table = λ s. table-in gs s ∙ rw (← h .names, t) (either (λ (t : Option Table). t ≡ none) (supported gs && same (field (s .header) 1) (ascii "990")) refl refl);
+  }
 
 -- 3. What an interchange without a refusal is to the writer.
 -- it is not too long
@@ -94,9 +104,9 @@ unfolding response respond
 set-bound i h = let d = delimiters i in omega (arith, simp (out-cons d, length-out-append d) at (response-bound i 0 0 0 h))
 
 -- with the rows of its edition it has all that the writer asks for
-pub answerable : (i : Bytes) (date time control : ℕ) {d : Delimiters} {f : Frame} {ids : List (List ℕ)} {rows : Guide} {known : Bool}
+pub answerable : (i : Bytes) (date time control : ℕ) {d : Delimiters} {f : Frame} {rows : Guide} {known : Bool}
     → (refusal i date time control ≡ 0) × FrameIs (delimiters i) i f → d ≡ delimiters i
-    → Decides (split (d .element) (part i (f .gs) (f .«gs_end»))) ids rows known → (d ≡ delimiters i) × Answerable d i f ids rows known
+    → Decides (split (d .element) (part i (f .gs) (f .«gs_end»))) rows known → (d ≡ delimiters i) × Answerable d i f rows known
 answerable i date time control (e, w) q t =
     let u = unrefused i date time control e in
     let short = short-of i u in (

@@ -14,9 +14,10 @@ use Rattle.rules.specs.Numbers.{decimal}
 use Rattle.rules.specs.Tables.{Table, tableOf}
 use Rattle.rules.specs.Segments.{Note}
 use Rattle.rules.specs.Sets.{Set, SetReport, segmentsOf, controlOf, notesIn, setCodes, setReport, accepted}
-use Rattle.rules.specs.Response.{segmentOut, ak2, ak3, ak3s, ak5, block}
+use Rattle.rules.specs.Response.{fieldsOut, segmentOut, out, ak2, ak3, ak3s, ak5, block}
 use Rattle.rules.specs.declared.Delimiters.{Delimiters}
 use Rattle.tables.specs.Reading.{Guide, Limits}
+use Rattle.guides.specs.Encoded.{directoryRows}
 use Rattle.text.specs.Text.{indexOf}
 use Rattle.segments.proofs.Pieces.{segments-at}
 use Rattle.sets.specs.declared.SetAt.{SetAt}
@@ -31,11 +32,12 @@ use Rattle.findings.specs.Steps.{start}
 use Rattle.findings.proofs.Linked.{walk-notes}
 use Rattle.findings.proofs.Told.{written-flat, null-flat}
 use Rattle.writing.specs.Over.{sat, From}
+use Rattle.writing.proofs.Over.{over-nil}
 use Rattle.writing.proofs.Laws.{whole}
 use Rattle.writing.proofs.Segments.{one, then as next}
 use Rattle.notes.specs.Saying.{Tells}
 use Rattle.notes.specs.declared.Told.{Told}
-use Rattle.acknowledgment.specs.Writers.{TellsFrom, tableWith}
+use Rattle.acknowledgment.specs.Writers.{TellsFrom, Measures, tableWith}
 use Rattle.acknowledgment.specs.Surveys.{setHere, acceptance}
 
 -- 1. The parts of a set.
@@ -92,6 +94,17 @@ acceptance-written {d} body at {end = end} h q p a b =
     let first = rw (p, header-here d body at end h q) at a in
     record { text = whole (next d (_ ∷ []) (_ ∷ []) (one d _ first) (one d _ b)); number = omega arith }
 
+-- and are as long as ST01, ST02 and twelve bytes
+pub acceptance-measured : {d : Delimiters} {body : Bytes} {at : ℕ} {r : SetAt} {st st01 st02 : Bytes} {both n : ℕ} → SetIs d body at r
+    → st ≡ take (r .header - at) (drop at body) → st01 ≡ field (split (d .element) st) 1 → st02 ≡ field (split (d .element) st) 2
+    → both ≡ sat (length st01 + length st02) → n ≡ sat (12 + both) → Measures d (acceptance (setIn d body at r)) (record { length = n; segments = 2 })
+unfolding acceptance fieldsOut out
+acceptance-measured {d} is p f g b e =
+    record {
+      text = record { count = simp length-append (omega (arith, ap length (rw (p, ← is .header) at f), ap length (rw (p, ← is .header) at g))); bytes = sym (over-nil _) };
+      number = omega arith;
+    }
+
 -- there are notes where the number of their segments is not 0
 are-notes : (ns : List Note) {m : ℕ} → m ≡ sat (length (ak3s ns)) → not (eqb m 0) ≡ not (null ns)
 unfolding ak3s ak3
@@ -123,17 +136,17 @@ notes-reject t ns s =
     go false false false false false = refl
 
 module _ {d : Delimiters} {s : Set} {closed : Bool} {n : ℕ} {bs st se : Bytes} (parts : Parts d s closed n bs st se)
-    (ids : List (List ℕ)) {rows : Guide} (limits : Limits rows) where
+    {rows : Guide} (limits : Limits rows) where
   abbrev notes : Bool → List Note
-  notes supported = notesIn d (tableIf supported (tableOf ids rows)) s
+  notes supported = notesIn d (tableIf supported (tableOf directoryRows rows)) s
 
   -- the events of a walk through the set are its notes
-  events-are : events (left bs d ids rows closed start) ≡ flat (notes true)
+  events-are : events (left bs d directoryRows rows closed start) ≡ flat (notes true)
   events-are =
-      rw (walk-notes bs d ids rows closed limits (parts .short), parts .whole, ← parts .trailer, ← closed-if closed (split (d .element) se), Bool·not-not closed)
+      rw (walk-notes bs d directoryRows rows closed limits (parts .short), parts .whole, ← parts .trailer, ← closed-if closed (split (d .element) se), Bool·not-not closed)
 
   -- what the walk says is its notes
-  notes-are : (supported : Bool) → (if supported then map written (events (left bs d ids rows closed start)) else []) ≡ ak3s (notes supported)
+  notes-are : (supported : Bool) → (if supported then map written (events (left bs d directoryRows rows closed start)) else []) ≡ ak3s (notes supported)
   unfolding ak3s
   notes-are true = rw events-are (written-flat _)
   notes-are false = refl
@@ -146,27 +159,27 @@ module _ {d : Delimiters} {s : Set} {closed : Bool} {n : ℕ} {bs st se : Bytes}
   -- are the set's
   codes-are : (supported : Bool) (ns : List Note) (earlier : List Bytes) {codes : Codes} {noted repeated : Bool} → noted ≡ not (null ns)
       → repeated ≡ member (controlOf s) earlier → codes ≡ codesBy supported noted repeated
-      → codesOf codes ≡ setCodes (tableIf supported (tableOf ids rows)) ns earlier s
+      → codesOf codes ≡ setCodes (tableIf supported (tableOf directoryRows rows)) ns earlier s
   codes-are supported ns earlier e g f =
-      rw f (set-codes _ ns earlier s (has-table supported (tableOf ids rows)) (parts .header) (parts .trailer) (parts .counted) e g)
+      rw f (set-codes _ ns earlier s (has-table supported (tableOf directoryRows rows)) (parts .header) (parts .trailer) (parts .counted) e g)
 
   -- no code but 5 and 23, and no note
   clean-by : (supported : Bool) {fine r : Bool} {codes : Codes} → codes ≡ codesBy supported false false → fine ≡ null (codesOf codes)
-      → r ≡ fine && not (not (null (events (left bs d ids rows closed start))))
-      → r ≡ null (setCodes (tableIf supported (tableOf ids rows)) (notes supported) [] s)
+      → r ≡ fine && not (not (null (events (left bs d directoryRows rows closed start))))
+      → r ≡ null (setCodes (tableIf supported (tableOf directoryRows rows)) (notes supported) [] s)
   unfolding setCodes every any
   clean-by true f g h =
       h
       ∙ rw (g, codes-are true [] [] refl refl f, events-are, null-flat (notes true), Bool·not-not (null (notes true)))
-      (sym (notes-reject (some (tableOf ids rows)) (notes true) s))
+      (sym (notes-reject (some (tableOf directoryRows rows)) (notes true) s))
   clean-by false f g h = h ∙ rw (g, codes-are false [] [] refl refl f)
 
   -- whether a set has no code, where its number is new
   pub clean-is : (known : Bool) {supported fine r : Bool} {codes : Codes}
       → supported ≡ known && same (field (split (d .element) st) 1) (ascii "990")
       → codes ≡ codesBy supported false false → fine ≡ null (codesOf codes)
-      → r ≡ fine && not (not (null (events (left bs d ids rows closed start))))
-      → r ≡ accepted (setReport d (tableWith known (tableOf ids rows) s) [] s)
+      → r ≡ fine && not (not (null (events (left bs d directoryRows rows closed start))))
+      → r ≡ accepted (setReport d (tableWith known rows s) [] s)
   unfolding setReport
   clean-is known {supported} e f g h = let which = rw (parts .header) at e in rw (← which) (clean-by supported f g h)
 
@@ -174,11 +187,11 @@ module _ {d : Delimiters} {s : Set} {closed : Bool} {n : ℕ} {bs st se : Bytes}
   pub block-of : (known : Bool) (earlier : List Bytes) {supported repeated : Bool} {codes : Codes} {told : Told} {k l m : ℕ} {o o₁ o₂ o₃ : Bytes}
       → supported ≡ known && same (field (split (d .element) st) 1) (ascii "990")
       → From 0 (segmentOut d (ascii "AK2" ∷ field (split (d .element) st) 1 ∷ field (split (d .element) st) 2 ∷ [])) k o o₁
-      → TellsFrom k d (if supported then map written (events (left bs d ids rows closed start)) else []) told o₁ o₂
+      → TellsFrom k d (if supported then map written (events (left bs d directoryRows rows closed start)) else []) told o₁ o₂
       → codes ≡ codesBy supported (not (eqb (told .segments) 0)) repeated
       → From (told .length) (segmentOut d (ascii "AK5" ∷ (if null (codesOf codes) then ascii "A" else ascii "R") ∷ map decimal (codesOf codes))) l o₂ o₃
       → m ≡ sat (told .segments + 2) → repeated ≡ member (controlOf s) earlier
-      → Tells d (block (setReport d (tableWith known (tableOf ids rows) s) earlier s)) (record { length = l; segments = m }) o o₃
+      → Tells d (block (setReport d (tableWith known rows s) earlier s)) (record { length = l; segments = m }) o o₃
   unfolding setReport ak2 ak5
   block-of known earlier {supported} {codes = codes} e a b f c g r =
       let tells = rw (notes-are supported) at b in

@@ -1,6 +1,6 @@
 pub mod Blocks
 pub mod Reports
-pub mod Surveys
 pub mod Turns
+pub mod Surveys
 pub mod Responses
 pub mod Answering

@@ -9,7 +9,7 @@ use lib.ListN.{length, length-append, length-take, length-drop}
 use Rattle.rules.specs.Base.{Bytes, ascii, same, if_then_else_}
 use Rattle.rules.specs.Cutting.{Segment, field, delimiters, isa, split, segments}
 use Rattle.rules.specs.Numbers.{decimal}
-use Rattle.rules.specs.Tables.{Table, tableOf}
+use Rattle.rules.specs.Tables.{Table}
 use Rattle.rules.specs.Sets.{Set, declaredIn}
 use Rattle.rules.specs.Groups.{Group, GroupReport, groupOf, groupReport, sets, tableIn, setReports, acceptedIn, verdict, or-else}
 use Rattle.rules.specs.Response.{segmentOut, out, ak1, ak9, blocks, stOut, seOut, told, transactionSet, isaOut, gsOut, geOut, ieaOut, respond, response}
@@ -54,8 +54,8 @@ group-at {d} {i} {f = f} h p q r = h .group ∙ rw (p, q, r, trailer-at (f .clos
     trailer-at false = refl
 
 -- what a look at the sets asks of the body
-pub sets-open : {d : Delimiters} {i body : Bytes} {f : Frame} {ids : List (List ℕ)} {rows : Guide} {known : Bool} {starts marks : List ℕ}
-    → Answerable d i f ids rows known → body ≡ part i (f .body) (f .«body_end») → length starts ≡ 5462 → length marks ≡ 5462
+pub sets-open : {d : Delimiters} {i body : Bytes} {f : Frame} {rows : Guide} {known : Bool} {starts marks : List ℕ}
+    → Answerable d i f rows known → body ≡ part i (f .body) (f .«body_end») → length starts ≡ 5462 → length marks ≡ 5462
     → Open d body rows starts marks
 sets-open a q l m = record {
   passed = rw q (a .passed);
@@ -74,11 +74,11 @@ told-is : (d : Delimiters) (st02 : Bytes) (g : Group) {table : Set → Option Ta
 unfolding told ak1 ak9 groupReport summary
 told-is d st02 g {table} e p q = rw (e, q, p, reports-count d table [] (sets g), group-codes g refl refl refl)
 
-module _ {d : Delimiters} {i gs body ge : Bytes} {f : Frame} {ids : List (List ℕ)} {rows : Guide} {known : Bool} {starts marks : List ℕ} {survey : Survey} {t : Told} {x y : Bytes}
-    (a : Answerable d i f ids rows known)
+module _ {d : Delimiters} {i gs body ge : Bytes} {f : Frame} {rows : Guide} {known : Bool} {starts marks : List ℕ} {survey : Survey} {t : Told} {x y : Bytes}
+    (a : Answerable d i f rows known)
     (p : gs ≡ part i (f .gs) (f .«gs_end»)) (q : body ≡ part i (f .body) (f .«body_end»)) (r : ge ≡ part i (f .ge) (f .«ge_end»))
-    (v : Surveyed d (tableWith known (tableOf ids rows)) body starts marks survey)
-    (w : Tells d (blocks (reports d (tableWith known (tableOf ids rows)) body)) t x y) where
+    (v : Surveyed d (tableWith known rows) body starts marks survey)
+    (w : Tells d (blocks (reports d (tableWith known rows) body)) t x y) where
   abbrev st02 : Bytes
   st02 = ascii "0001"
 
@@ -86,7 +86,7 @@ module _ {d : Delimiters} {i gs body ge : Bytes} {f : Frame} {ids : List (List �
   report = groupReport d (groupOf (segments d i))
 
   abbrev setBlocks : List Segment
-  setBlocks = blocks (reports d (tableWith known (tableOf ids rows)) body)
+  setBlocks = blocks (reports d (tableWith known rows) body)
 
   abbrev opening : Segment
   opening = ascii "AK1" ∷ field (split (d .element) gs) 1 ∷ field (split (d .element) gs) 6 ∷ []

@@ -1,12 +1,13 @@
 -- The blocks of the sets of a group, set by set: what is written of them so far, and what is owed.
-use mathlib.Core.Path.{_≡_, refl, ap, _∙_}
-use mathlib.Core.List.{List, _∷_}
+use mathlib.Core.Path.{_≡_, refl, sym, ap, _∙_}
+use mathlib.Core.List.{List, [], _∷_}
 use mathlib.Core.Option.{Option}
 use Prim.Native.Nat.{ℕ, _+_, _-_, _<_, _≤_, min}
 use native.Mathlib.Omega.{arith}
 use lib.ListN.{length, drop, length-append, drop-of-length-le}
 use borrow.Rule.Slice.PartMut.{midOf, putMid}
 use Rattle.rules.specs.Base.{Bytes}
+use Rattle.rules.specs.Cutting.{Segment}
 use Rattle.rules.specs.Tables.{Table}
 use Rattle.rules.specs.Sets.{Set, SetReport}
 use Rattle.rules.specs.Response.{out, block, blocks}
@@ -15,9 +16,11 @@ use Rattle.rules.proofs.Cuts.{out-append}
 use Rattle.sets.specs.Places.{setAt, controlsAt}
 use Rattle.sets.proofs.Sets.{SetIs, set-next}
 use Rattle.writing.specs.Over.{sat}
+use Rattle.writing.proofs.Over.{over-nil}
 use Rattle.writing.proofs.Laws.{Owes, lend, all, pay, done, whole, kept}
 use Rattle.notes.specs.Saying.{Tells}
 use Rattle.notes.specs.declared.Told.{Told}
+use Rattle.acknowledgment.specs.Writers.{Measures}
 use Rattle.acknowledgment.specs.Surveys.{reportAt, reports, Seen}
 use Rattle.acknowledgment.proofs.Reports.{left-next, drop-next}
 
@@ -67,6 +70,19 @@ module _ {d : Delimiters} {rs : List SetReport} {o o₁ : Bytes} {n m k : ℕ} (
         text = whole (done (s .text) (rw none) (s .long) (omega arith));
         number = omega (arith, rw none at (s .number));
       }
+
+-- what a writer says of an empty part is what its segments come to, and the other way round
+pub measures : {d : Delimiters} {ss : List Segment} {r : Told} {p : Bytes} → Tells d ss r [] p → Measures d ss r
+measures w = record { text = record { count = w .text .count; bytes = sym (over-nil _) }; number = w .number }
+
+pub measured-none : {d : Delimiters} {ss : List Segment} {r : Told} (o : Bytes) → length o ≡ 0 → Measures d ss r → Tells d ss r o o
+measured-none [] e m = m
+measured-none (x ∷ o) e m = absurd (omega arith)
+
+-- a turn that only measures
+pub sofar-measured : {d : Delimiters} {rs : List SetReport} {n m k n′ m′ : ℕ} {one : SetReport} {b : Told} → Sofar d rs [] [] n m k
+    → drop k rs ≡ one ∷ drop (k + 1) rs → Measures d (block one) b → n′ ≡ sat (n + b .length) → m′ ≡ sat (m + b .segments) → Sofar d rs [] [] n′ m′ (k + 1)
+sofar-measured s next w nn mm = sofar-turn s {rest = 0} next (omega arith) w nn mm
 
 -- the set that a survey names, and its report
 module _ {d : Delimiters} {table : Set → Option Table} {body : Bytes} {before : List ℕ} {k at mark : ℕ} (s : Seen d table body before k at mark) where

@@ -10,28 +10,30 @@ use Rattle.rules.specs.Cutting.{Segment, field, segments}
 use Rattle.rules.specs.Tables.{Table}
 use Rattle.rules.specs.Sets.{Set, SetReport, setsOf, stray, controlOf, setReport, accepted}
 use Rattle.rules.specs.Groups.{setReports, acceptedIn}
+use Rattle.rules.specs.Response.{blocks}
 use Rattle.rules.specs.declared.Delimiters.{Delimiters}
 use Rattle.tables.specs.Reading.{Guide, Limits}
 use Rattle.sets.specs.Places.{setAt, controlAt, controlsAt}
 use Rattle.sets.proofs.Sets.{setIn}
 use Rattle.sets.proofs.Refused.{Passed}
+use Rattle.register.specs.Trees.{slotOf}
 use Rattle.register.proofs.Entered.{Entered}
 use Rattle.acknowledgment.specs.declared.Survey.{Survey}
+use Rattle.acknowledgment.specs.Writers.{Measures}
 
 -- 1. A set is entered among those before it.
 -- There is room for set k, which starts at a place.
-pub record Room (starts heads links : List ℕ) (k at : ℕ) : Type 0 where
+pub record Room (starts links : List ℕ) (k at : ℕ) : Type 0 where
   pub start : k < length starts
-  pub link : k < length links
-  pub buckets : length heads ≡ 1024
+  pub link : slotOf k 0 ≤ length links
   pub number : k < 65535
-  pub place : at < 4294967296
+  pub place : at < 65536
 
 -- Set k, which starts at a place, was entered after those that start at these places; r tells whether its ST02 is one of theirs.
-pub record EnteredNext (d : Delimiters) (body : Bytes) (starts : List ℕ) (k at : ℕ) (r : Bool) (starts′ heads links : List ℕ) : Type 0 where
+pub record EnteredNext (d : Delimiters) (body : Bytes) (starts : List ℕ) (k at : ℕ) (r : Bool) (starts′ links : List ℕ) : Type 0 where
   pub repeated : r ≡ member (controlAt d body at) (controlsAt d body (take k starts))
   pub stored : starts′ ≡ set starts k at
-  pub entered : Entered d body starts′ heads links (k + 1)
+  pub entered : Entered d body starts′ links (k + 1)
 
 -- 2. The set at a place, and its report after sets with these ST02.
 abbrev pub setHere : Delimiters → Bytes → ℕ → Set
@@ -72,6 +74,7 @@ pub record Seen (d : Delimiters) (table : Set → Option Table) (body : Bytes) (
 pub record Surveyed (d : Delimiters) (table : Set → Option Table) (body : Bytes) (starts marks : List ℕ) (r : Survey) : Type 0 where
   pub received : r .sets ≡ length (reports d table body)
   pub allowed : r .accepted ≡ acceptedIn (reports d table body)
+  pub measured : Measures d (blocks (reports d table body)) (record { length = r .length; segments = r .segments })
   pub stored : r .sets ≤ length starts
   pub marked : r .sets ≤ length marks
   pub seen : (k : ℕ) → k < r .sets → Seen d table body (take k starts) k (getD starts k 0) (getD marks k 0)

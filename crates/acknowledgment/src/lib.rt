@@ -5,13 +5,13 @@ ghost use Prim.Native.Nat.{_<_};
 ghost use lib.ListN.{length};
 ghost use Rattle.rules.specs.Base.{Bytes, ascii, member, if_then_else_};
 ghost use Rattle.rules.specs.Cutting as cutting;
-ghost use Rattle.rules.specs.Tables.{tableOf};
 ghost use Rattle.rules.specs.Sets.{controlOf, accepted};
 ghost use Rattle.rules.specs.Groups.{groupOf, groupReport};
 ghost use Rattle.rules.specs.Refusals.{refusal};
 ghost use Rattle.rules.specs.Response as text;
 ghost use Rattle.rules.specs.Answers.{Allowed, fitting, buffer, called};
 ghost use Rattle.tables.specs.Reading.{Limits};
+ghost use Rattle.guides.specs.Encoded.{directoryRows};
 ghost use Rattle.frame.specs.Places.{part};
 ghost use Rattle.frame.proofs.Laws.{FrameIs};
 ghost use Rattle.sets.specs.Places.{setAt};
@@ -23,11 +23,12 @@ ghost use Rattle.findings.specs.Left.{events, left};
 ghost use Rattle.findings.specs.Steps.{start};
 ghost use Rattle.writing.specs.Over.{Wrote, From};
 ghost use Rattle.notes.specs.Saying.{Tells};
-ghost use Rattle.acknowledgment.specs.Writers.{TellsFrom, tableWith, summary, Answerable};
+ghost use Rattle.acknowledgment.specs.Writers.{TellsFrom, Measures, tableWith, summary, Answerable};
 ghost use Rattle.acknowledgment.specs.Surveys.{Room, EnteredNext, setHere, reportAt, reports, markOf, Marked, acceptance, Surveyed, Open};
 use frame::Frame;
 use notes::Told;
 use refusals::Checked;
+use register::Found;
 use rules::Answer;
 use rules::Delimiters;
 use sets::SetAt;
@@ -39,6 +40,9 @@ const ST02: [u8; 4] = *b"0001";
 // As many sets as fit in the longest interchange: each takes twelve bytes at least.
 const MOST_SETS: usize = 5462;
 
+// The links of the buckets, and two for each set.
+const LINKS: usize = register::BUCKETS + 2 * MOST_SETS;
+
 // The marks of a set: it has no code; it has some; one of them is that its control number was used before.
 const ACCEPTED: u8 = 0;
 
@@ -46,33 +50,44 @@ const REJECTED: u8 = 1;
 
 const REPEATED: u8 = 2;
 
-// How many sets a group has, and how many of them are accepted.
+// The bytes of AK2 and AK5 of an accepted set beside its ST01 and ST02.
+const ACCEPTANCE: usize = 12;
+
+// How many sets a group has, how many of them are accepted, and what the blocks of all come to in bytes and in segments.
 struct Survey {
     sets: usize,
     accepted: usize,
+    length: usize,
+    segments: usize,
+}
+
+// The caller's numbers: the date, the time and the control number of the response.
+struct Caller {
+    date: u32,
+    time: u32,
+    control: u32,
 }
 
 // Whether a set before the one at `at`, which is set k, has its ST02. The set is entered for those after it.
 fn enter(
     body: &[u8],
     d: Delimiters,
-    starts: &mut [u32],
-    heads: &mut [u16],
+    starts: &mut [u16],
     links: &mut [u16],
     k: usize,
     at: usize,
 ) -> bool
-    requires { ⌜ (Entered d (now body) (now starts) (now heads) (now links) k) × Room (now starts) (now heads) (now links) k at ⌝ }
-    ensures { λ r. ⌜ EnteredNext d (now (body .entry)) (now (starts .entry)) k at r (now (starts .exit)) (now (heads .exit)) (now (links .exit)) ⌝ }
+    requires { ⌜ (Entered d (now body) (now starts) (now links) k) × Room (now starts) (now links) k at ⌝ }
+    ensures { λ r. ⌜ EnteredNext d (now (body .entry)) (now (starts .entry)) k at r (now (starts .exit)) (now (links .exit)) ⌝ }
 {
-    let control = sets::control_at(body, d, at);
-    let bucket = register::bucket_of(control);
-    let last = heads[bucket];
-    let repeated = register::is_repeated(body, d, starts, links, last as usize, control);
-    starts[k] = at as u32;
-    links[k] = last;
-    heads[bucket] = (k + 1) as u16;
-    repeated
+    starts[k] = at as u16;
+    match register::search(body, d, starts, links, sets::control_at(body, d, at)) {
+        Found::Repeated => true,
+        Found::Free(slot) => {
+            links[slot] = (k + 1) as u16;
+            false
+        }
+    }
 }
 
 // The set at a place has no code, where its control number was not used before.
@@ -81,18 +96,17 @@ fn is_clean(
     d: Delimiters,
     at: usize,
     place: SetAt,
-    directory: &[[u8; 3]],
     guide: &[[u16; 6]],
     known: bool,
 ) -> bool
     requires { ⌜ (place ≡ setAt d (now body) at) × ((SetIs d (now body) at place) × Limits (now guide)) ⌝ }
-    ensures { λ r. ⌜ r ≡ accepted (reportAt d (tableWith known (tableOf (now (directory .entry)) (now (guide .entry)))) (now (body .entry)) at []) ⌝ }
+    ensures { λ r. ⌜ r ≡ accepted (reportAt d (tableWith known (now (guide .entry))) (now (body .entry)) at []) ⌝ }
 {
-    let set = sets::part(body, at, place.end);
-    let header = sets::part(body, at, place.header);
-    let trailer = sets::part(body, place.trailer, place.end - 1);
+    let set = text::part(body, at, place.end);
+    let header = text::part(body, at, place.header);
+    let trailer = text::part(body, place.trailer, place.end - 1);
     let closed = place.closed;
-    let supported = known && verdicts::is_load_response(segments::field(header, d.element, 1));
+    let supported = known & verdicts::is_load_response(segments::field(header, d.element, 1));
     let codes = verdicts::set_codes(
         supported,
         closed,
@@ -103,7 +117,8 @@ fn is_clean(
         false,
         false,
     );
-    codes.is_empty() && !findings::is_noted(set, d, directory, guide, closed)
+    let directory = guides::directory();
+    codes.is_empty() && !findings::is_noted(set, d, &directory, guide, closed)
 }
 
 // The mark of the set at a place.
@@ -112,54 +127,21 @@ fn mark_of(
     d: Delimiters,
     at: usize,
     place: SetAt,
-    directory: &[[u8; 3]],
     guide: &[[u16; 6]],
     known: bool,
     repeated: bool,
 ) -> u8
     requires { ⌜ (place ≡ setAt d (now body) at) × ((SetIs d (now body) at place) × Limits (now guide)) ⌝ }
-    ensures { λ r. ⌜ r ≡ markOf repeated (reportAt d (tableWith known (tableOf (now (directory .entry)) (now (guide .entry)))) (now (body .entry)) at []) ⌝ }
+    ensures { λ r. ⌜ r ≡ markOf repeated (reportAt d (tableWith known (now (guide .entry))) (now (body .entry)) at []) ⌝ }
 {
     if repeated {
         return REPEATED;
     }
-    if is_clean(body, d, at, place, directory, guide, known) {
+    if is_clean(body, d, at, place, guide, known) {
         ACCEPTED
     } else {
         REJECTED
     }
-}
-
-// One look at each set of a group: where it starts, and its mark.
-fn survey_sets(
-    body: &[u8],
-    d: Delimiters,
-    directory: &[[u8; 3]],
-    guide: &[[u16; 6]],
-    known: bool,
-    starts: &mut [u32],
-    marks: &mut [u8],
-) -> Survey
-    requires { ⌜ Open d (now body) (now guide) (now starts) (now marks) ⌝ }
-    ensures { λ r. ⌜ Surveyed d (tableWith known (tableOf (now (directory .entry)) (now (guide .entry)))) (now (body .entry)) (now (starts .exit)) (now (marks .exit)) r ⌝ }
-{
-    let mut heads: [u16; register::BUCKETS] = [0; register::BUCKETS];
-    let mut links: [u16; MOST_SETS] = [0; MOST_SETS];
-    let mut sets = 0;
-    let mut accepted = 0;
-    let mut at = 0;
-    while at < body.len() {
-        let place = sets::next_set(body, d, at);
-        let repeated = enter(body, d, starts, &mut heads, &mut links, sets, at);
-        let mark = mark_of(body, d, at, place, directory, guide, known, repeated);
-        marks[sets] = mark;
-        if mark == ACCEPTED {
-            accepted += 1;
-        }
-        sets += 1;
-        at = place.end;
-    }
-    Survey { sets, accepted }
 }
 
 // The notes of a set after n bytes; a set without a table has none.
@@ -168,12 +150,11 @@ fn add_notes(
     n: usize,
     set: &[u8],
     d: Delimiters,
-    directory: &[[u8; 3]],
     guide: &[[u16; 6]],
     closed: bool,
     supported: bool,
 ) -> Told
-    ensures { λ r. ⌜ TellsFrom n d (if supported then map written (events (left (now (set .entry)) d (now (directory .entry)) (now (guide .entry)) closed start)) else []) r (now (out .entry)) (now (out .exit)) ⌝ }
+    ensures { λ r. ⌜ TellsFrom n d (if supported then map written (events (left (now (set .entry)) d directoryRows (now (guide .entry)) closed start)) else []) r (now (out .entry)) (now (out .exit)) ⌝ }
 {
     if !supported {
         return Told {
@@ -182,7 +163,8 @@ fn add_notes(
         };
     }
     let at = writing::clipped(n, out.len());
-    let told = notes::put_notes(&mut out[at..], set, d, directory, guide, closed);
+    let directory = guides::directory();
+    let told = notes::put_notes(&mut out[at..], set, d, &directory, guide, closed);
     Told {
         length: writing::joined(n, told.length),
         segments: told.segments,
@@ -194,7 +176,7 @@ fn put_accepted(out: &mut [u8], body: &[u8], d: Delimiters, at: usize) -> Told
     requires { ⌜ at < length (now body) ⌝ }
     ensures { λ r. ⌜ Tells d (acceptance (setHere d (now (body .entry)) at)) r (now (out .entry)) (now (out .exit)) ⌝ }
 {
-    let header = sets::part(body, at, text::find(body, at, d.terminator));
+    let header = text::part(body, at, text::find(body, at, d.terminator));
     let n = blocks::add_ak2(out, 0, d, header);
     Told {
         length: blocks::add_ak5(out, n, d, &header[0..0]),
@@ -208,22 +190,21 @@ fn put_rejected(
     body: &[u8],
     d: Delimiters,
     at: usize,
-    directory: &[[u8; 3]],
     guide: &[[u16; 6]],
     known: bool,
     repeated: bool,
 ) -> Told
     requires { ⌜ (SetIs d (now body) at (setAt d (now body) at)) × Limits (now guide) ⌝ }
-    ensures { λ r. ⌜ ((earlier : List Bytes) → repeated ≡ member (controlOf (setHere d (now (body .entry)) at)) earlier → Tells d (text.block (reportAt d (tableWith known (tableOf (now (directory .entry)) (now (guide .entry)))) (now (body .entry)) at earlier)) r (now (out .entry)) (now (out .exit))) ⌝ }
+    ensures { λ r. ⌜ ((earlier : List Bytes) → repeated ≡ member (controlOf (setHere d (now (body .entry)) at)) earlier → Tells d (text.block (reportAt d (tableWith known (now (guide .entry))) (now (body .entry)) at earlier)) r (now (out .entry)) (now (out .exit))) ⌝ }
 {
     let place = sets::next_set(body, d, at);
-    let set = sets::part(body, at, place.end);
-    let header = sets::part(body, at, place.header);
-    let trailer = sets::part(body, place.trailer, place.end - 1);
+    let set = text::part(body, at, place.end);
+    let header = text::part(body, at, place.header);
+    let trailer = text::part(body, place.trailer, place.end - 1);
     let closed = place.closed;
-    let supported = known && verdicts::is_load_response(segments::field(header, d.element, 1));
+    let supported = known & verdicts::is_load_response(segments::field(header, d.element, 1));
     let n = blocks::add_ak2(out, 0, d, header);
-    let told = add_notes(out, n, set, d, directory, guide, closed, supported);
+    let told = add_notes(out, n, set, d, guide, closed, supported);
     let codes = verdicts::set_codes(
         supported,
         closed,
@@ -249,50 +230,119 @@ fn put_block(
     d: Delimiters,
     at: usize,
     mark: u8,
-    directory: &[[u8; 3]],
     guide: &[[u16; 6]],
     known: bool,
 ) -> Told
     requires { ⌜ (at < length (now body)) × ((SetIs d (now body) at (setAt d (now body) at)) × Limits (now guide)) ⌝ }
-    ensures { λ r. ⌜ ((earlier : List Bytes) → Marked d (tableWith known (tableOf (now (directory .entry)) (now (guide .entry)))) (now (body .entry)) at earlier mark → Tells d (text.block (reportAt d (tableWith known (tableOf (now (directory .entry)) (now (guide .entry)))) (now (body .entry)) at earlier)) r (now (out .entry)) (now (out .exit))) ⌝ }
+    ensures { λ r. ⌜ ((earlier : List Bytes) → Marked d (tableWith known (now (guide .entry))) (now (body .entry)) at earlier mark → Tells d (text.block (reportAt d (tableWith known (now (guide .entry))) (now (body .entry)) at earlier)) r (now (out .entry)) (now (out .exit))) ⌝ }
 {
     if mark == ACCEPTED {
         return put_accepted(out, body, d, at);
     }
-    put_rejected(out, body, d, at, directory, guide, known, mark == REPEATED)
+    put_rejected(out, body, d, at, guide, known, mark == REPEATED)
 }
 
-// The blocks of the sets of a group, as surveyed.
+// What the block of the set at a place comes to. That of an accepted set has two segments; any other is measured on an empty part.
+fn measure_block(
+    body: &[u8],
+    d: Delimiters,
+    at: usize,
+    place: SetAt,
+    mark: u8,
+    guide: &[[u16; 6]],
+    known: bool,
+) -> Told
+    requires { ⌜ (place ≡ setAt d (now body) at) × ((SetIs d (now body) at place) × Limits (now guide)) ⌝ }
+    ensures { λ r. ⌜ ((earlier : List Bytes) → Marked d (tableWith known (now (guide .entry))) (now (body .entry)) at earlier mark → Measures d (text.block (reportAt d (tableWith known (now (guide .entry))) (now (body .entry)) at earlier)) r) ⌝ }
+{
+    if mark == ACCEPTED {
+        let header = text::part(body, at, place.header);
+        let st01 = segments::field(header, d.element, 1);
+        let st02 = segments::field(header, d.element, 2);
+        return Told {
+            length: writing::joined(ACCEPTANCE, writing::joined(st01.len(), st02.len())),
+            segments: 2,
+        };
+    }
+    let mut nothing: [u8; 1] = [0];
+    put_rejected(
+        &mut nothing[0..0],
+        body,
+        d,
+        at,
+        guide,
+        known,
+        mark == REPEATED,
+    )
+}
+
+// One look at each set of a group: where it starts, its mark, and what its block comes to.
+fn survey_sets(
+    body: &[u8],
+    d: Delimiters,
+    guide: &[[u16; 6]],
+    known: bool,
+    starts: &mut [u16],
+    marks: &mut [u8],
+) -> Survey
+    requires { ⌜ Open d (now body) (now guide) (now starts) (now marks) ⌝ }
+    ensures { λ r. ⌜ Surveyed d (tableWith known (now (guide .entry))) (now (body .entry)) (now (starts .exit)) (now (marks .exit)) r ⌝ }
+{
+    let mut links: [u16; LINKS] = [0; LINKS];
+    let mut sets = 0;
+    let mut accepted = 0;
+    let mut length = 0;
+    let mut segments = 0;
+    let mut at = 0;
+    while at < body.len() {
+        let place = sets::next_set(body, d, at);
+        let repeated = enter(body, d, starts, &mut links, sets, at);
+        let mark = mark_of(body, d, at, place, guide, known, repeated);
+        marks[sets] = mark;
+        let told = measure_block(body, d, at, place, mark, guide, known);
+        length = writing::joined(length, told.length);
+        segments = writing::joined(segments, told.segments);
+        if mark == ACCEPTED {
+            accepted += 1;
+        }
+        sets += 1;
+        at = place.end;
+    }
+    Survey {
+        sets,
+        accepted,
+        length,
+        segments,
+    }
+}
+
+// The blocks of the sets of a group, as surveyed. Where nothing can be written, the survey has what they come to.
 fn put_sets(
     out: &mut [u8],
     body: &[u8],
     d: Delimiters,
-    directory: &[[u8; 3]],
     guide: &[[u16; 6]],
     known: bool,
-    starts: &[u32],
+    starts: &[u16],
     marks: &[u8],
     survey: Survey,
 ) -> Told
-    requires { ⌜ (Surveyed d (tableWith known (tableOf (now directory) (now guide))) (now body) (now starts) (now marks) survey) × Limits (now guide) ⌝ }
-    ensures { λ r. ⌜ Tells d (text.blocks (reports d (tableWith known (tableOf (now (directory .entry)) (now (guide .entry)))) (now (body .entry)))) r (now (out .entry)) (now (out .exit)) ⌝ }
+    requires { ⌜ (Surveyed d (tableWith known (now guide)) (now body) (now starts) (now marks) survey) × Limits (now guide) ⌝ }
+    ensures { λ r. ⌜ Tells d (text.blocks (reports d (tableWith known (now (guide .entry))) (now (body .entry)))) r (now (out .entry)) (now (out .exit)) ⌝ }
 {
+    if out.len() == 0 {
+        return Told {
+            length: survey.length,
+            segments: survey.segments,
+        };
+    }
     let mut n = 0;
     let mut segments = 0;
     let mut k = 0;
     while k < survey.sets {
         let at = starts[k] as usize;
         let rest = writing::clipped(n, out.len());
-        let told = put_block(
-            &mut out[rest..],
-            body,
-            d,
-            at,
-            marks[k],
-            directory,
-            guide,
-            known,
-        );
+        let told = put_block(&mut out[rest..], body, d, at, marks[k], guide, known);
         n = writing::joined(n, told.length);
         segments = writing::joined(segments, told.segments);
         k += 1;
@@ -340,33 +390,22 @@ fn add_transaction_set(
     i: &[u8],
     d: Delimiters,
     f: Frame,
-    directory: &[[u8; 3]],
     guide: &[[u16; 6]],
     known: bool,
-    starts: &[u32],
+    starts: &[u16],
     marks: &[u8],
     survey: Survey,
 ) -> usize
-    requires { ⌜ (Answerable d (now i) f (now directory) (now guide) known) × Surveyed d (tableWith known (tableOf (now directory) (now guide))) (part (now i) (f .body) (f .«body_end»)) (now starts) (now marks) survey ⌝ }
+    requires { ⌜ (Answerable d (now i) f (now guide) known) × Surveyed d (tableWith known (now guide)) (part (now i) (f .body) (f .«body_end»)) (now starts) (now marks) survey ⌝ }
     ensures { λ r. ⌜ From n (text.out d (text.transactionSet (ascii "0001") (groupReport d (groupOf (cutting.segments d (now (i .entry))))))) r (now (out .entry)) (now (out .exit)) ⌝ }
 {
-    let gs = sets::part(i, f.gs, f.gs_end);
-    let body = sets::part(i, f.body, f.body_end);
-    let ge = sets::part(i, f.ge, f.ge_end);
+    let gs = text::part(i, f.gs, f.gs_end);
+    let body = text::part(i, f.body, f.body_end);
+    let ge = text::part(i, f.ge, f.ge_end);
     let n = blocks::add_st(out, n, d, &ST02);
     let n = blocks::add_ak1(out, n, d, gs);
     let at = writing::clipped(n, out.len());
-    let told = put_sets(
-        &mut out[at..],
-        body,
-        d,
-        directory,
-        guide,
-        known,
-        starts,
-        marks,
-        survey,
-    );
+    let told = put_sets(&mut out[at..], body, d, guide, known, starts, marks, survey);
     let n = writing::joined(n, told.length);
     let n = add_verdict(out, n, d, gs, ge, f.closed, survey.sets, survey.accepted);
     blocks::add_se(out, n, d, writing::joined(told.segments, 4), &ST02)
@@ -378,35 +417,21 @@ fn put_response(
     i: &[u8],
     d: Delimiters,
     f: Frame,
-    directory: &[[u8; 3]],
     guide: &[[u16; 6]],
     known: bool,
-    starts: &[u32],
+    starts: &[u16],
     marks: &[u8],
     survey: Survey,
-    date: u32,
-    time: u32,
-    control: u32,
+    caller: Caller,
 ) -> usize
-    requires { ⌜ (d ≡ cutting.delimiters (now i)) × ((Answerable d (now i) f (now directory) (now guide) known) × Surveyed d (tableWith known (tableOf (now directory) (now guide))) (part (now i) (f .body) (f .«body_end»)) (now starts) (now marks) survey) ⌝ }
-    ensures { λ r. ⌜ Wrote (text.response (now (i .entry)) date time control) r (now (out .entry)) (now (out .exit)) ⌝ }
+    requires { ⌜ (d ≡ cutting.delimiters (now i)) × ((Answerable d (now i) f (now guide) known) × Surveyed d (tableWith known (now guide)) (part (now i) (f .body) (f .«body_end»)) (now starts) (now marks) survey) ⌝ }
+    ensures { λ r. ⌜ Wrote (text.response (now (i .entry)) (caller .date) (caller .time) (caller .control)) r (now (out .entry)) (now (out .exit)) ⌝ }
 {
-    let gs = sets::part(i, f.gs, f.gs_end);
-    let n = blocks::add_isa(out, 0, d, i, date, time, control);
-    let n = blocks::add_gs(out, n, d, gs, date, time, control);
-    let n = add_transaction_set(
-        out,
-        n,
-        i,
-        d,
-        f,
-        directory,
-        guide,
-        known,
-        starts,
-        marks,
-        survey,
-    );
+    let gs = text::part(i, f.gs, f.gs_end);
+    let control = caller.control;
+    let n = blocks::add_isa(out, 0, d, i, caller.date, caller.time, control);
+    let n = blocks::add_gs(out, n, d, gs, caller.date, caller.time, control);
+    let n = add_transaction_set(out, n, i, d, f, guide, known, starts, marks, survey);
     let n = blocks::add_ge(out, n, d, 1, control);
     blocks::add_iea(out, n, d, 1, control)
 }
@@ -417,98 +442,55 @@ fn respond(
     i: &[u8],
     d: Delimiters,
     f: Frame,
-    directory: &[[u8; 3]],
     guide: &[[u16; 6]],
     known: bool,
-    date: u32,
-    time: u32,
-    control: u32,
+    caller: Caller,
 ) -> Answer
-    requires { ⌜ (d ≡ cutting.delimiters (now i)) × Answerable d (now i) f (now directory) (now guide) known ⌝ }
-    ensures { λ r. ⌜ (r ≡ fitting (text.response (now (i .entry)) date time control) (length (now (out .entry)))) × (now (out .exit) ≡ buffer r (text.response (now (i .entry)) date time control) (now (out .entry))) ⌝ }
+    requires { ⌜ (d ≡ cutting.delimiters (now i)) × Answerable d (now i) f (now guide) known ⌝ }
+    ensures { λ r. ⌜ (r ≡ fitting (text.response (now (i .entry)) (caller .date) (caller .time) (caller .control)) (length (now (out .entry)))) × (now (out .exit) ≡ buffer r (text.response (now (i .entry)) (caller .date) (caller .time) (caller .control)) (now (out .entry))) ⌝ }
 {
-    let mut starts: [u32; MOST_SETS] = [0; MOST_SETS];
+    let mut starts: [u16; MOST_SETS] = [0; MOST_SETS];
     let mut marks: [u8; MOST_SETS] = [0; MOST_SETS];
-    let body = sets::part(i, f.body, f.body_end);
-    let survey = survey_sets(body, d, directory, guide, known, &mut starts, &mut marks);
+    let body = text::part(i, f.body, f.body_end);
+    let survey = survey_sets(body, d, guide, known, &mut starts, &mut marks);
     let needed = put_response(
         &mut out[0..0],
         i,
         d,
         f,
-        directory,
         guide,
         known,
         &starts,
         &marks,
         survey,
-        date,
-        time,
-        control,
+        caller,
     );
     if out.len() < needed {
         return Answer::TooLong(needed);
     }
-    Answer::Written(put_response(
-        out,
-        i,
-        d,
-        f,
-        directory,
-        guide,
-        known,
-        &starts,
-        &marks,
-        survey,
-        date,
-        time,
-        control,
-    ))
+    Answer::Written(put_response(out, i, d, f, guide, known, &starts, &marks, survey, caller))
 }
 
 // The answer to a sound interchange, by the table of the group's edition.
-fn answer_group(out: &mut [u8], i: &[u8], f: Frame, date: u32, time: u32, control: u32) -> Answer
-    requires { ⌜ (refusal (now i) date time control ≡ 0) × FrameIs (cutting.delimiters (now i)) (now i) f ⌝ }
-    ensures { λ r. ⌜ Allowed (now (i .entry)) (now (out .entry)) date time control r (now (out .exit)) ⌝ }
+fn answer_group(out: &mut [u8], i: &[u8], f: Frame, caller: Caller) -> Answer
+    requires { ⌜ (refusal (now i) (caller .date) (caller .time) (caller .control) ≡ 0) × FrameIs (cutting.delimiters (now i)) (now i) f ⌝ }
+    ensures { λ r. ⌜ Allowed (now (i .entry)) (now (out .entry)) (caller .date) (caller .time) (caller .control) r (now (out .exit)) ⌝ }
 {
     let d = envelope::delimiters(i);
-    let gs = sets::part(i, f.gs, f.gs_end);
-    let supported = verdicts::is_supported(segments::field(gs, d.element, 1));
-    let directory = guides::directory();
+    let gs = text::part(i, f.gs, f.gs_end);
+    let known = verdicts::is_supported(segments::field(gs, d.element, 1));
     match verdicts::edition_of(segments::field(gs, d.element, 8)) {
         Edition::E006010 => {
             let guide = guides::guide_006010();
-            respond(
-                out,
-                i,
-                d,
-                f,
-                &directory,
-                &guide,
-                supported,
-                date,
-                time,
-                control,
-            )
+            respond(out, i, d, f, &guide, known, caller)
         }
         Edition::E004010 => {
             let guide = guides::guide_004010();
-            respond(
-                out,
-                i,
-                d,
-                f,
-                &directory,
-                &guide,
-                supported,
-                date,
-                time,
-                control,
-            )
+            respond(out, i, d, f, &guide, known, caller)
         }
         Edition::Other => {
             let guide = guides::guide_004010();
-            respond(out, i, d, f, &directory, &guide, false, date, time, control)
+            respond(out, i, d, f, &guide, false, caller)
         }
     }
 }
@@ -524,7 +506,14 @@ pub fn acknowledge(
     ensures { λ r. ⌜ Allowed (now (interchange .entry)) (now (response .entry)) date time control r (now (response .exit)) ⌝ }
 {
     match refusals::check(interchange, date, time, control) {
-        Checked::Sound(f) => answer_group(response, interchange, f, date, time, control),
+        Checked::Sound(f) => {
+            let caller = Caller {
+                date,
+                time,
+                control,
+            };
+            answer_group(response, interchange, f, caller)
+        }
         Checked::Refused(n) => Answer::Refused(n),
     }
 }

@@ -1,41 +1,105 @@
 -- The places of a segment by an entry's rows: one field after the other, and what findings are left.
-use mathlib.Core.Path.{_≡_, refl, sym, _∙_}
+use mathlib.Core.Path.{_≡_, refl, sym, ap, _∙_}
 use mathlib.Core.Bool.{Bool, true, false, _&&_, _||_, not, false≢true, true≢false}
 use mathlib.Core.List.{List, [], _∷_, _++_, map}
-use Prim.Native.Nat.{ℕ, _+_, _-_, _<_, _≤_}
-use native.Mathlib.Nat.{le-refl}
+use Prim.Native.Nat.{ℕ, suc, _+_, _-_, _<_, _≤_, suc-le-suc}
+use native.Mathlib.Nat.{le-refl, zero-lt-suc, le-of-suc-le-suc, not-suc-le-zero}
 use native.Mathlib.Omega.{arith}
-use borrow.Author.Tests.{lt-ltb, le-ltb, ltb-true, ltb-false, leb-true, leb-false}
+use borrow.Author.Tests.{lt-ltb, le-ltb, ltb-true, ltb-false, leb-true, leb-false, eq-eqb, ne-eqb, eqb-true, eqb-false, not-true}
 use lib.Dec.{eqb, ltb, leb}
-use lib.ListN.{length, getD, take, drop, drop-of-length-le}
-use lib.Seq.{take-nil}
-use Rattle.rules.specs.Base.{Bytes, null, any, between, _⇒_, first, every, if_then_else_}
-use Rattle.rules.specs.Cutting.{Segment, split, field}
+use lib.ListN.{length, getD, take, drop, drop-of-length-le, length-drop}
+use lib.Seq.{take-nil, getD-drop}
+use Rattle.rules.specs.Base.{Bytes, null, all, any, between, _⇒_, first, every, if_then_else_}
+use Rattle.rules.specs.Cutting.{Segment, split, field, valid, marks}
 use Rattle.rules.specs.Elements.{isDT, isTM, spelled, size, elementCode, present, lacks, shutsOut, placeCodes, found, findingsFrom}
 use Rattle.rules.specs.Numbers.{isDate, isTime}
 use Rattle.rules.specs.Tables.{Row, Syntax, isRow, rowsIn}
 use Rattle.rules.specs.declared.Delimiters.{Delimiters}
 use Rattle.rules.specs.declared.Finding.{Finding}
-use Rattle.text.specs.Text.{indexOf}
+use Rattle.rules.proofs.Logic.{and-right, or-left}
+use Rattle.text.specs.Text.{indexOf, indexWhere, nextWhere, invalid}
 use Rattle.text.proofs.Loops.{or-false}
-use Rattle.text.proofs.Search.{find-le}
-use Rattle.segments.proofs.Fields.{FieldAt, field-at, field-next, field-some, field-none, field-past, field-stay}
+use Rattle.text.proofs.Where.{index-yes, index-no, next-within}
+use Rattle.segments.proofs.Fields.{FieldAt, field-at, field-next, field-some, field-none, field-past, field-stay, present-length}
 use Rattle.tables.specs.Reading.{Guide, rowAt}
 use Rattle.tables.proofs.Laws.{rows-here, rows-skip}
 use Rattle.elements.specs.Notes.{breaks}
-use Rattle.elements.specs.Places.{nextEnd}
-use Rattle.elements.proofs.Codes.{unlisted}
+use Rattle.elements.specs.Places.{nextStart, endsField, noteCode, nextCode}
+use Rattle.elements.specs.Values.{unlisted}
 use Rattle.elements.proofs.Notes.{lacks-present, shuts-absent, breaks-absent, breaks-present}
 
--- 1. The next field.
-module _ (e : ℕ) (s : Bytes) (n end next : ℕ) (f : FieldAt e s n (end + 1)) (q : next ≡ nextEnd e s end) where
-  more : end < length s → next ≡ end + 1 + indexOf e (drop (end + 1) s)
-  unfolding nextEnd
-  more h = q ∙ rw (lt-ltb end (length s) h)
+-- 1. The next field: valid bytes up to a separator, or to the end.
+-- a valid byte is no separator
+valid-free : (d : Delimiters) (b : ℕ) → valid d b ≡ true → eqb b (d .element) ≡ false
+unfolding valid marks any
+valid-free d b e =
+    let others = eqb b (d .component) || (eqb b (d .terminator) || false) in
+    or-left (eqb b (d .element)) others (not-true (eqb b (d .element) || others) (and-right (between 32 126 b) (not (eqb b (d .element) || others)) e))
 
-  stays : length s ≤ end → next ≡ end
-  unfolding nextEnd
-  stays h = q ∙ rw (le-ltb end (length s) h)
+module _ (d : Delimiters) where
+  -- how many bytes come before the first that is not valid
+  abbrev stop : Bytes → ℕ
+  stop xs = indexWhere (invalid d) xs
+
+  stop-no : (x : ℕ) (xs : Bytes) → valid d x ≡ true → stop (x ∷ xs) ≡ suc (stop xs)
+  stop-no x xs e = index-no (invalid d) x xs (rw e)
+
+  stop-yes : (x : ℕ) (xs : Bytes) → valid d x ≡ false → stop (x ∷ xs) ≡ 0
+  stop-yes x xs e = index-yes (invalid d) x xs (rw e)
+
+  stop-valid : (xs : Bytes) → all (valid d) (take (stop xs) xs) ≡ true
+  unfolding all
+  stop-valid [] = rw take-nil
+  stop-valid (x ∷ xs) = go (valid d x) refl (stop-valid xs)
+    where
+      go : (b : Bool) → valid d x ≡ b → all (valid d) (take (stop xs) xs) ≡ true → all (valid d) (take (stop (x ∷ xs)) (x ∷ xs)) ≡ true
+      go true e h = rw (stop-no x xs e, e) h
+      go false e h = rw (stop-yes x xs e)
+
+  -- they end where the first separator is
+  stop-whole : (xs : Bytes) → (stop xs < length xs → getD xs (stop xs) 0 ≡ d .element) → stop xs ≡ indexOf (d .element) xs
+  unfolding indexOf indexWhere
+  stop-whole [] h = refl
+  stop-whole (x ∷ xs) h = go (valid d x) refl (stop-whole xs)
+    where
+      go : (b : Bool) → valid d x ≡ b
+          → ((stop xs < length xs → getD xs (stop xs) 0 ≡ d .element) → stop xs ≡ indexOf (d .element) xs)
+          → stop (x ∷ xs) ≡ indexOf (d .element) (x ∷ xs)
+      go true e f =
+          let g = rw (stop-no x xs e) at h in
+          rw (stop-no x xs e, valid-free d x e) (ap suc (f (λ l. g (suc-le-suc l))))
+      go false e f =
+          let g = rw (stop-yes x xs e) at h in
+          rw (stop-yes x xs e, eq-eqb x (d .element) (g (zero-lt-suc (length xs))))
+
+  -- or the field goes on with a byte that is not valid
+  stop-spoiled : (xs : Bytes) → stop xs < length xs → (getD xs (stop xs) 0 ≡ d .element → ⊥)
+      → all (valid d) (take (indexOf (d .element) xs) xs) ≡ false
+  unfolding indexOf all
+  stop-spoiled [] l h = absurd (not-suc-le-zero l)
+  stop-spoiled (x ∷ xs) l h = go (valid d x) refl (stop-spoiled xs)
+    where
+      go : (b : Bool) → valid d x ≡ b
+          → (stop xs < length xs → (getD xs (stop xs) 0 ≡ d .element → ⊥) → all (valid d) (take (indexOf (d .element) xs) xs) ≡ false)
+          → all (valid d) (take (indexOf (d .element) (x ∷ xs)) (x ∷ xs)) ≡ false
+      go true e f = rw (valid-free d x e, e) (f (le-of-suc-le-suc (rw (stop-no x xs e) at l)) (rw (stop-no x xs e) at h))
+      go false e f = let g = rw (stop-yes x xs e) at h in rw (ne-eqb x (d .element) g, e)
+
+-- field n, which follows the one that ends at `end`: its bytes are valid from `start` to `next`
+pub record ValidTo (d : Delimiters) (s : Bytes) (n end start next : ℕ) : Type 0 where
+  pub at : FieldAt (d .element) s n (end + 1)
+  pub within : end ≤ length s
+  pub starts : start ≡ nextStart s end
+  pub stops : next ≡ nextWhere (invalid d) s start
+
+module _ {d : Delimiters} {s : Bytes} {n end start next : ℕ} (v : ValidTo d s n end start next) where
+  more : end < length s → start ≡ end + 1
+  unfolding nextStart
+  more h = v .starts ∙ rw (lt-ltb end (length s) h)
+
+  over : length s ≤ end → start ≡ end
+  unfolding nextStart
+  over h = v .starts ∙ rw (le-ltb end (length s) h)
 
   either : {X : Type 0} → (end < length s → X) → (length s ≤ end → X) → X
   either {X} g h = go (ltb end (length s)) refl
@@ -44,69 +108,151 @@ module _ (e : ℕ) (s : Bytes) (n end next : ℕ) (f : FieldAt e s n (end + 1)) 
       go true k = g (ltb-true end (length s) k)
       go false k = h (ltb-false end (length s) k)
 
-  pub next-field : field (split e s) n ≡ take (next - (end + 1)) (drop (end + 1) s)
-  next-field =
-      either (λ h. field-at f (more h))
-      (λ h. rw (field-past f (omega arith) n (le-refl n), drop-of-length-le s {i = end + 1} (omega arith)) (sym (take-nil (next - (end + 1)))))
+  starts-within : start ≤ length s
+  starts-within = either (λ h. omega (arith, more h)) (λ h. omega (arith, over h, v .within))
 
-  pub next-at : FieldAt e s (n + 1) (next + 1)
-  next-at = either (λ h. field-next f (more h)) (λ h. rw (stays h) (field-stay f (omega arith)))
+  pub next-after : start ≤ next
+  next-after = omega (arith, v .stops)
 
-  pub next-within : end ≤ length s → next ≤ length s
-  next-within l = either (λ h. omega (arith, more h, find-le e s (end + 1) (omega arith))) (λ h. omega (arith, stays h))
+  pub ends-within : next ≤ length s
+  ends-within = rw (v .stops) (next-within (invalid d) s start starts-within)
+
+  -- what stands where the valid bytes end, seen from the start
+  stop-at : getD (drop start s) (stop d (drop start s)) 0 ≡ getD s next 0
+  stop-at = rw (getD-drop, v .stops)
+
+  begins : end < length s → FieldAt (d .element) s n start
+  begins h = rw (more h) (v .at)
+
+  none : length s ≤ end → field (split (d .element) s) n ≡ []
+  none h = field-past (v .at) (omega arith) n (le-refl n)
+
+  module _ (ends : endsField (d .element) s next ≡ true) where
+    separator : next < length s → getD s next 0 ≡ d .element
+    unfolding endsField
+    separator h = eqb-true (getD s next 0) (d .element) (rw (lt-ltb next (length s) h) at ends)
+
+    stopped : next ≡ start + indexOf (d .element) (drop start s)
+    stopped =
+        v .stops
+        ∙ ap (λ (i : ℕ). start + i)
+        (stop-whole d (drop start s) (λ h. stop-at ∙ separator (omega (arith, v .stops, length-drop start s))))
+
+    pub next-field : field (split (d .element) s) n ≡ take (next - start) (drop start s)
+    next-field =
+        either (λ h. field-at (begins h) stopped)
+        (λ h. none h ∙ sym (rw (drop-of-length-le s {i = start} (omega (arith, over h))) (take-nil (next - start))))
+
+    pub next-present : present (split (d .element) s) n ≡ ltb 0 (length (take (next - start) (drop start s)))
+    next-present = ap (λ (v : Bytes). not (null v)) next-field ∙ present-length (take (next - start) (drop start s))
+
+    pub next-valid : all (valid d) (take (next - start) (drop start s)) ≡ true
+    next-valid = let l : next - start ≡ stop d (drop start s) = omega (arith, v .stops) in rw l (stop-valid d (drop start s))
+
+    pub next-at : FieldAt (d .element) s (n + 1) (next + 1)
+    next-at =
+        either (λ h. field-next (begins h) stopped)
+        (λ h. let l : next ≡ end = omega (arith, over h, ends-within, next-after) in rw l (field-stay (v .at) (omega arith)))
+
+  pub next-spoiled : endsField (d .element) s next ≡ false → all (valid d) (field (split (d .element) s) n) ≡ false
+  unfolding endsField
+  next-spoiled ends = go (ltb next (length s)) refl ends
+    where
+      go : (b : Bool) → ltb next (length s) ≡ b → (if b then eqb (getD s next 0) (d .element) else true) ≡ false
+          → all (valid d) (field (split (d .element) s) n) ≡ false
+      go false h e = absurd (true≢false e)
+      go true h e =
+          let l : next < length s = ltb-true next (length s) h in
+          let b = begins (omega (arith, either {X = end < length s} (λ h. h) (λ h. omega (arith, over h, next-after)))) in
+          let i : start + indexOf (d .element) (drop start s) - start ≡ indexOf (d .element) (drop start s) = omega arith in
+          rw (field-at b refl, i)
+          (stop-spoiled d (drop start s) (omega (arith, v .stops, length-drop start s)) (λ q. eqb-false (getD s next 0) (d .element) e (sym stop-at ∙ q)))
 
 -- 2. The codes of a place.
-abbrev Told : ℕ → Type 0
-Told n = eqb n 1 || between 4 9 n ≡ not (eqb n 0)
+-- code 1 is of an empty value, and codes 4 to 9 are of another
+record OwnIs (empty : Bool) (own : ℕ) : Type 0 where
+  pub absent : eqb own 1 ≡ empty && not (eqb own 0)
+  pub filled : between 4 9 own ≡ not empty && not (eqb own 0)
 
--- an element's own code is one of those that are told
-own-told : (d : Delimiters) (r : Row) (e : Bytes) → Told (elementCode d r e)
+own-is : (d : Delimiters) (r : Row) (e : Bytes) → OwnIs (null e) (elementCode d r e)
 unfolding elementCode first
-own-told d r e =
+own-is d r e =
     go (null e) (r .mandatory) (not (spelled d (r .kind) e)) (ltb (size (r .kind) e) (r .shortest)) (ltb (r .longest) (size (r .kind) e))
     (unlisted r e) (isDT (r .kind) && not (isDate e)) (isTM (r .kind) && not (isTime e))
   where
     go : (empty m a b c x y z : Bool)
-        → Told (if empty then first ((m ⇒ 1) ∷ []) else first ((a ⇒ 6) ∷ (b ⇒ 4) ∷ (c ⇒ 5) ∷ (x ⇒ 7) ∷ (y ⇒ 8) ∷ (z ⇒ 9) ∷ []))
-    go true true a b c x y z = refl
-    go true false a b c x y z = refl
-    go false m true b c x y z = refl
-    go false m false true c x y z = refl
-    go false m false false true x y z = refl
-    go false m false false false true y z = refl
-    go false m false false false false true z = refl
-    go false m false false false false false true = refl
-    go false m false false false false false false = refl
+        → OwnIs empty (if empty then first ((m ⇒ 1) ∷ []) else first ((a ⇒ 6) ∷ (b ⇒ 4) ∷ (c ⇒ 5) ∷ (x ⇒ 7) ∷ (y ⇒ 8) ∷ (z ⇒ 9) ∷ []))
+    go true true a b c x y z = record { absent = refl; filled = refl }
+    go true false a b c x y z = record { absent = refl; filled = refl }
+    go false m true b c x y z = record { absent = refl; filled = refl }
+    go false m false true c x y z = record { absent = refl; filled = refl }
+    go false m false false true x y z = record { absent = refl; filled = refl }
+    go false m false false false true y z = record { absent = refl; filled = refl }
+    go false m false false false false true z = record { absent = refl; filled = refl }
+    go false m false false false false false true = record { absent = refl; filled = refl }
+    go false m false false false false false false = record { absent = refl; filled = refl }
 
-breaks-any : (s : Segment) (n : ℕ) (notes : List Syntax) → any (breaks s n) notes ≡ lacks notes s n || shutsOut notes s n
-breaks-any s n notes = go (present s n) refl
-  where
-    go : (b : Bool) → present s n ≡ b → any (breaks s n) notes ≡ lacks notes s n || shutsOut notes s n
-    go true e = rw (lacks-present s n notes e) (breaks-present s n notes e)
-    go false e = rw (shuts-absent s n notes e) (breaks-absent s n notes e ∙ sym (or-false (lacks notes s n)))
+module _ (notes : List Syntax) (s : Segment) (n : ℕ) where
+  -- the code of the notes, by whether one is broken
+  pub noted : (b : Bool) → b ≡ present s n → (broken : Bool) → broken ≡ any (breaks s n) notes
+      → (if broken then (if b then 10 else 2) else 0) ≡ noteCode notes s n
+  noted true e broken q = rw (q, breaks-present s n notes (sym e), lacks-present s n notes (sym e))
+  noted false e broken q = rw (q, breaks-absent s n notes (sym e), shuts-absent s n notes (sym e))
 
--- a place has no code where its value has none and no note is broken there
-place-null : (d : Delimiters) (notes : List Syntax) (s : Segment) (r : Row) (n : ℕ)
-    → null (placeCodes d notes s r n) ≡ (eqb (elementCode d r (field s n)) 0 && not (any (breaks s n) notes))
-unfolding placeCodes every
-place-null d notes s r n =
-    rw (breaks-any s n notes)
-    (go (elementCode d r (field s n)) (own-told d r (field s n)) (lacks notes s n) (shutsOut notes s n))
-  where
-    codes : (a b c x m : Bool) (own : ℕ) → a || c ≡ not m → null (every ((a ⇒ 1) ∷ (b ⇒ 2) ∷ (c ⇒ own) ∷ (x ⇒ 10) ∷ [])) ≡ m && not (b || x)
-    codes true b c x true own e = absurd (true≢false e)
-    codes true b c x false own e = refl
-    codes false b true x true own e = absurd (true≢false e)
-    codes false true true x false own e = refl
-    codes false false true x false own e = refl
-    codes false b false x false own e = absurd (false≢true e)
-    codes false true false x true own e = refl
-    codes false false false true true own e = refl
-    codes false false false false true own e = refl
+  -- they give one where one is broken
+  pub noted-some : any (breaks s n) notes ≡ not (eqb (noteCode notes s n) 0)
+  noted-some = rw (← noted (present s n) refl (any (breaks s n) notes) refl) (go (present s n) (any (breaks s n) notes))
+    where
+      go : (b broken : Bool) → broken ≡ not (eqb (if broken then (if b then 10 else 2) else 0) 0)
+      go true true = refl
+      go true false = refl
+      go false true = refl
+      go false false = refl
 
-    go : (own : ℕ) → Told own → (b x : Bool)
-        → null (every ((eqb own 1 ⇒ 1) ∷ (b ⇒ 2) ∷ (between 4 9 own ⇒ own) ∷ (x ⇒ 10) ∷ [])) ≡ eqb own 0 && not (b || x)
-    go own t b x = codes (eqb own 1) b (between 4 9 own) x (eqb own 0) own t
+  module _ (d : Delimiters) (r : Row) where
+    abbrev ownCode : ℕ
+    ownCode = elementCode d r (field s n)
+
+    -- that of the value, and then that of the notes
+    pub place-codes : placeCodes d notes s r n ≡ every ((not (eqb ownCode 0) ⇒ ownCode) ∷ (not (eqb (noteCode notes s n) 0) ⇒ noteCode notes s n) ∷ [])
+    unfolding placeCodes every
+    place-codes = go (null (field s n)) refl ownCode (own-is d r (field s n))
+      where
+        absent : (z l : Bool) (own : ℕ) → eqb own 0 ≡ z → eqb own 1 ≡ not z
+            → every ((eqb own 1 ⇒ 1) ∷ (l ⇒ 2) ∷ []) ≡ every ((not z ⇒ own) ∷ (not (eqb (if l then 2 else 0) 0) ⇒ (if l then 2 else 0)) ∷ [])
+        absent true true own e f = rw f
+        absent true false own e f = rw f
+        absent false true own e f = rw (f, eqb-true own 1 f)
+        absent false false own e f = rw (f, eqb-true own 1 f)
+
+        filled : (z x : Bool) (own : ℕ)
+            → every ((not z ⇒ own) ∷ (x ⇒ 10) ∷ []) ≡ every ((not z ⇒ own) ∷ (not (eqb (if x then 10 else 0) 0) ⇒ (if x then 10 else 0)) ∷ [])
+        filled true true own = refl
+        filled true false own = refl
+        filled false true own = refl
+        filled false false own = refl
+
+        go : (empty : Bool) → null (field s n) ≡ empty → (own : ℕ) → OwnIs empty own
+            → every ((eqb own 1 ⇒ 1) ∷ (lacks notes s n ⇒ 2) ∷ (between 4 9 own ⇒ own) ∷ (shutsOut notes s n ⇒ 10) ∷ [])
+            ≡ every ((not (eqb own 0) ⇒ own) ∷ (not (eqb (noteCode notes s n) 0) ⇒ noteCode notes s n) ∷ [])
+        go true e own o = rw (o .filled, shuts-absent s n notes (rw e)) (absent (eqb own 0) (lacks notes s n) own refl (o .absent))
+        go false e own o = rw (o .absent, o .filled, lacks-present s n notes (rw e)) (filled (eqb own 0) (shutsOut notes s n) own)
+
+    -- the next of them, by what the code of the value and the notes came out as
+    pub next-code : (own : ℕ) → own ≡ ownCode → (b : Bool) → b ≡ present s n → (broken : Bool) → broken ≡ any (breaks s n) notes → (told : Bool)
+        → nextCode d notes s r n told
+        ≡ (if told || eqb own 0 then record { code = if broken then (if b then 10 else 2) else 0; more = false } else record { code = own; more = broken })
+    next-code own p b e broken q told = rw (p, noted b e broken q, q ∙ noted-some)
+
+    -- a place has no code where its value has none and no note is broken there
+    place-null : null (placeCodes d notes s r n) ≡ (eqb ownCode 0 && not (any (breaks s n) notes))
+    unfolding every
+    place-null = rw (place-codes, noted-some) (go (eqb ownCode 0) (eqb (noteCode notes s n) 0))
+      where
+        go : (z w : Bool) → null (every ((not z ⇒ ownCode) ∷ (not w ⇒ noteCode notes s n) ∷ [])) ≡ z && not (not w)
+        go true true = refl
+        go true false = refl
+        go false w = refl
 
 -- 3. The findings that are left at row k and place n.
 abbrev pub clean : Delimiters → List Syntax → Segment → Guide → ℕ → ℕ → Bool
@@ -114,12 +260,12 @@ clean d notes s rows k n = null (findingsFrom d notes s n (rowsIn (drop k rows))
 
 module _ (d : Delimiters) (notes : List Syntax) (s : Segment) (rows : Guide) (k n : ℕ) where
   pub clean-row : isRow 2 (getD rows k []) ≡ true
-      → (own : ℕ) → own ≡ elementCode d (rowAt rows k) (field s n)
+      → (good : Bool) → good ≡ eqb (elementCode d (rowAt rows k) (field s n)) 0
       → (broken : Bool) → broken ≡ any (breaks s n) notes
-      → clean d notes s rows k n ≡ (eqb own 0 && not broken) && clean d notes s rows (k + 1) (n + 1)
+      → clean d notes s rows k n ≡ (good && not broken) && clean d notes s rows (k + 1) (n + 1)
   unfolding findingsFrom
-  clean-row e own p broken q =
-      rw (rows-here rows k e, p, q, ← place-null d notes s (rowAt rows k) n) (go (placeCodes d notes s (rowAt rows k) n))
+  clean-row e good p broken q =
+      rw (rows-here rows k e, p, q, ← place-null notes s n d (rowAt rows k)) (go (placeCodes d notes s (rowAt rows k) n))
     where
       go : (codes : List ℕ) → null (map (found n (rowAt rows k)) codes ++ findingsFrom d notes s (n + 1) (rowsIn (drop (k + 1) rows)))
           ≡ null codes && clean d notes s rows (k + 1) (n + 1)

@@ -1,18 +1,18 @@
 // Notes on elements: the code of a value by its row, the syntax notes, and whether a segment has any finding.
 ghost use mathlib.Core.Path.{_≡_};
-ghost use mathlib.Core.Bool.{true, _&&_, not};
+ghost use mathlib.Core.Bool.{_&&_, not};
 ghost use mathlib.Core.List.{[], _∷_};
-ghost use Prim.Native.Nat.{_+_, _-_, _≤_};
-ghost use lib.ListN.{length, getD, take, drop};
-ghost use Rattle.rules.specs.Base.{_⇒_, first, null, any, between, member, if_then_else_};
-ghost use Rattle.rules.specs.Cutting.{field, split};
+ghost use Prim.Native.Nat.{_+_};
+ghost use lib.ListN.{getD, drop};
+ghost use Rattle.rules.specs.Base.{_⇒_, first, null, any, if_then_else_};
+ghost use Rattle.rules.specs.Cutting.{split};
 ghost use Rattle.rules.specs.Elements as rules;
 ghost use Rattle.rules.specs.Numbers as numbers;
 ghost use Rattle.rules.specs.Tables as tables;
-ghost use Rattle.tables.specs.Reading.{rowAt, codesAt, entryAt};
-ghost use Rattle.elements.specs.Forms.{formOf};
+ghost use Rattle.tables.specs.Reading.{rowAt, entryAt};
+ghost use Rattle.elements.specs.Values.{unlisted, spelledAs, ruleCode, valueCode, takesLength, takes};
 ghost use Rattle.elements.specs.Notes.{noteIs, breaks, breaksBy, concerns};
-ghost use Rattle.elements.specs.Places.{nextEnd, stageCode};
+ghost use Rattle.elements.specs.Places.{nextCode, nextStart, endsField};
 use rules::Delimiters;
 use rules::Kind;
 use rules::Relation;
@@ -29,38 +29,6 @@ const SHORTEST: usize = 4;
 
 const LONGEST: usize = 5;
 
-// What the type of an element says of a value: its bytes are the type's, how long it counts, and the code of the type's own rule.
-struct Form {
-    spelled: bool,
-    size: usize,
-    code: u8,
-}
-
-impl Form {
-    // Any valid bytes, by a rule that gives this code.
-    fn of(e: &[u8], code: u8) -> Self
-        ensures { λ r. ⌜ r ≡ record { spelled = true; size = length (now (e .entry)); code = code } ⌝ }
-    {
-        Self {
-            spelled: true,
-            size: e.len(),
-            code,
-        }
-    }
-
-    // Digits after an optional minus, which does not count.
-    fn of_number(e: &[u8]) -> Self
-        ensures { λ r. ⌜ r ≡ formOf Kind.N0 (now (e .entry)) ⌝ }
-    {
-        let digits = text::unsigned(e);
-        Self {
-            spelled: text::all_digits(digits),
-            size: digits.len(),
-            code: 0,
-        }
-    }
-}
-
 fn date_code(e: &[u8]) -> u8
     ensures { λ r. ⌜ r ≡ first ((not (numbers.isDate (now (e .entry))) ⇒ 8) ∷ []) ⌝ }
 {
@@ -73,30 +41,25 @@ fn time_code(e: &[u8]) -> u8
     if text::is_time(e) { 0 } else { 9 }
 }
 
-fn form_of(e: &[u8], guide: &[[u16; 6]], k: usize) -> Form
-    ensures { λ r. ⌜ r ≡ formOf (rowAt (now (guide .entry)) k .kind) (now (e .entry)) ⌝ }
+// The row after row k; past the end there is none, whatever the number.
+fn below(guide: &[[u16; 6]], k: usize) -> usize
+    ensures { λ r. ⌜ drop r (now (guide .entry)) ≡ drop (k + 1) (now (guide .entry)) ⌝ }
 {
-    let kind = tables::kind_of(tables::number(guide, k, KIND));
-    match kind {
-        Kind::AN => Form::of(e, 0),
-        Kind::ID => Form::of(e, 0),
-        Kind::N0 => Form::of_number(e),
-        Kind::DT => Form::of(e, date_code(e)),
-        Kind::TM => Form::of(e, time_code(e)),
+    if k < guide.len() {
+        return k + 1;
     }
+    k
 }
 
 // Outside the code values of row k, where it has any.
 fn is_unlisted(e: &[u8], guide: &[[u16; 6]], k: usize) -> bool
-    ensures { λ r. ⌜ r ≡ (not (null (codesAt (now (guide .entry)) (k + 1))) && not (member (now (e .entry)) (codesAt (now (guide .entry)) (k + 1)))) ⌝ }
+    ensures { λ r. ⌜ r ≡ unlisted (rowAt (now (guide .entry)) k) (now (e .entry)) ⌝ }
 {
-    if guide.len() <= k {
+    let values = below(guide, k);
+    if !tables::has_values(guide, values) {
         return false;
     }
-    if !tables::has_values(guide, k + 1) {
-        return false;
-    }
-    !tables::is_listed(guide, k + 1, e)
+    !tables::is_listed(guide, values, e)
 }
 
 fn empty_code(guide: &[[u16; 6]], k: usize) -> u8
@@ -121,6 +84,72 @@ fn limit(guide: &[[u16; 6]], k: usize, column: usize) -> usize
     wide(tables::number(guide, k, column))
 }
 
+fn is_number(kind: Kind) -> bool
+    ensures { λ r. ⌜ r ≡ rules.isN0 kind ⌝ }
+{
+    match kind {
+        Kind::AN => false,
+        Kind::ID => false,
+        Kind::N0 => true,
+        Kind::DT => false,
+        Kind::TM => false,
+    }
+}
+
+// Of a number: nothing but digits after an optional minus.
+fn is_spelled(e: &[u8], kind: Kind) -> bool
+    ensures { λ r. ⌜ r ≡ spelledAs kind (now (e .entry)) ⌝ }
+{
+    if !is_number(kind) {
+        return true;
+    }
+    text::all_digits(text::unsigned(e))
+}
+
+// How long a value counts: the minus of a number does not.
+fn size(e: &[u8], kind: Kind) -> usize
+    ensures { λ r. ⌜ r ≡ rules.size kind (now (e .entry)) ⌝ }
+{
+    if is_number(kind) {
+        return text::unsigned(e).len();
+    }
+    e.len()
+}
+
+// The code of the type's own rule.
+fn rule_code(e: &[u8], kind: Kind) -> u8
+    ensures { λ r. ⌜ r ≡ ruleCode kind (now (e .entry)) ⌝ }
+{
+    match kind {
+        Kind::AN => 0,
+        Kind::ID => 0,
+        Kind::N0 => 0,
+        Kind::DT => date_code(e),
+        Kind::TM => time_code(e),
+    }
+}
+
+// The code of a value of valid bytes, which is not empty, by row k; 0 for none.
+fn value_code(e: &[u8], guide: &[[u16; 6]], k: usize) -> u8
+    ensures { λ r. ⌜ r ≡ valueCode (rowAt (now (guide .entry)) k) (now (e .entry)) ⌝ }
+{
+    let kind = tables::kind_of(tables::number(guide, k, KIND));
+    if !is_spelled(e, kind) {
+        return 6;
+    }
+    let size = size(e, kind);
+    if size < limit(guide, k, SHORTEST) {
+        return 4;
+    }
+    if limit(guide, k, LONGEST) < size {
+        return 5;
+    }
+    if is_unlisted(e, guide, k) {
+        return 7;
+    }
+    rule_code(e, kind)
+}
+
 // The code of an element's value by row k, 0 for none.
 pub fn element_code(e: &[u8], d: Delimiters, guide: &[[u16; 6]], k: usize) -> u8
     ensures { λ r. ⌜ r ≡ rules.elementCode d (rowAt (now (guide .entry)) k) (now (e .entry)) ⌝ }
@@ -131,20 +160,30 @@ pub fn element_code(e: &[u8], d: Delimiters, guide: &[[u16; 6]], k: usize) -> u8
     if !text::all_valid(e, d) {
         return 6;
     }
-    let form = form_of(e, guide, k);
-    if !form.spelled {
-        return 6;
+    value_code(e, guide, k)
+}
+
+// Row k asks of a text only how long it is, and takes this length.
+fn takes_length(n: usize, guide: &[[u16; 6]], k: usize) -> bool
+    ensures { λ r. ⌜ r ≡ takesLength (now (guide .entry)) k n ⌝ }
+{
+    if tables::ID < tables::number(guide, k, KIND) {
+        return false;
     }
-    if form.size < limit(guide, k, SHORTEST) {
-        return 4;
+    if tables::has_values(guide, below(guide, k)) {
+        return false;
     }
-    if limit(guide, k, LONGEST) < form.size {
-        return 5;
+    limit(guide, k, SHORTEST) <= n && n <= limit(guide, k, LONGEST)
+}
+
+// A value of valid bytes has no code by row k. Most rows ask only for its length, so that is tried first.
+fn takes(e: &[u8], guide: &[[u16; 6]], k: usize) -> bool
+    ensures { λ r. ⌜ r ≡ takes (rowAt (now (guide .entry)) k) (now (e .entry)) ⌝ }
+{
+    if e.len() == 0 {
+        return empty_code(guide, k) == 0;
     }
-    if is_unlisted(e, guide, k) {
-        return 7;
-    }
-    form.code
+    takes_length(e.len(), guide, k) || value_code(e, guide, k) == 0
 }
 
 // The place at i, 0 past the end.
@@ -360,78 +399,47 @@ fn breaks_any(s: &[u8], e: u8, guide: &[[u16; 6]], from: usize, n: usize, presen
     concerns_any(guide, from, present) && breaks_notes(s, e, guide, from, n)
 }
 
-// The row after an entry's own; past the end there is none, whatever the number.
-fn below(guide: &[[u16; 6]], entry: usize) -> usize
-    ensures { λ r. ⌜ drop r (now (guide .entry)) ≡ drop (entry + 1) (now (guide .entry)) ⌝ }
-{
-    if entry < guide.len() {
-        return entry + 1;
-    }
-    entry
+// A code of a place, 0 for none, and whether one more comes after it.
+pub struct Coded {
+    pub code: u8,
+    pub more: bool,
 }
 
-// A note of the entry asks for an element at place n, which is absent (code 2).
-pub fn lacks(s: &[u8], d: Delimiters, guide: &[[u16; 6]], entry: usize, n: usize) -> bool
-    ensures { λ r. ⌜ r ≡ rules.lacks (entryAt (now (guide .entry)) entry .notes) (split (d .element) (now (s .entry))) n ⌝ }
+// The code of a broken note: what is present is shut out (10), and what is absent is asked for (2).
+fn note_code(broken: bool, present: bool) -> u8
+    ensures { λ r. ⌜ r ≡ (if broken then (if present then 10 else 2) else 0) ⌝ }
 {
-    if segments::is_present(s, d.element, n) {
-        return false;
-    }
-    breaks_notes(s, d.element, guide, below(guide, entry), n)
-}
-
-// A note of the entry shuts out the element at place n, which is present (code 10).
-pub fn shuts_out(s: &[u8], d: Delimiters, guide: &[[u16; 6]], entry: usize, n: usize) -> bool
-    ensures { λ r. ⌜ r ≡ rules.shutsOut (entryAt (now (guide .entry)) entry .notes) (split (d .element) (now (s .entry))) n ⌝ }
-{
-    if !segments::is_present(s, d.element, n) {
-        return false;
-    }
-    breaks_notes(s, d.element, guide, below(guide, entry), n)
-}
-
-fn own_code(s: &[u8], d: Delimiters, guide: &[[u16; 6]], k: usize, n: usize) -> u8
-    ensures { λ r. ⌜ r ≡ rules.elementCode d (rowAt (now (guide .entry)) k) (field (split (d .element) (now (s .entry))) n) ⌝ }
-{
-    element_code(segments::field(s, d.element, n), d, guide, k)
-}
-
-// The code of a value that is there.
-fn filled_code(own: u8) -> u8
-    ensures { λ r. ⌜ r ≡ if between 4 9 own then own else 0 ⌝ }
-{
-    if own < 4 {
+    if !broken {
         return 0;
     }
-    if 9 < own {
-        return 0;
-    }
-    own
+    if present { 10 } else { 2 }
 }
 
-fn given(applies: bool, code: u8) -> u8
-    ensures { λ r. ⌜ r ≡ if applies then code else 0 ⌝ }
-{
-    if applies { code } else { 0 }
-}
-
-// The code of place n by the element of row k that comes first, second, third or fourth; 0 for none.
-pub fn code_at(
+// The next code of place n by the element of row k: that of its value, which may be told already, and then that of the entry's notes.
+pub fn next_code(
     s: &[u8],
     d: Delimiters,
     guide: &[[u16; 6]],
     entry: usize,
     k: usize,
     n: usize,
-    stage: usize,
-) -> u8
-    ensures { λ r. ⌜ r ≡ stageCode d (entryAt (now (guide .entry)) entry .notes) (split (d .element) (now (s .entry))) (rowAt (now (guide .entry)) k) n stage ⌝ }
+    told: bool,
+) -> Coded
+    ensures { λ r. ⌜ r ≡ nextCode d (entryAt (now (guide .entry)) entry .notes) (split (d .element) (now (s .entry))) (rowAt (now (guide .entry)) k) n told ⌝ }
 {
-    match stage {
-        0 => given(own_code(s, d, guide, k, n) == 1, 1),
-        1 => given(lacks(s, d, guide, entry, n), 2),
-        2 => filled_code(own_code(s, d, guide, k, n)),
-        _ => given(shuts_out(s, d, guide, entry, n), 10),
+    let field = segments::field(s, d.element, n);
+    let present = 0 < field.len();
+    let broken = breaks_notes(s, d.element, guide, below(guide, entry), n);
+    let own = element_code(field, d, guide, k);
+    if told | (own == 0) {
+        return Coded {
+            code: note_code(broken, present),
+            more: false,
+        };
+    }
+    Coded {
+        code: own,
+        more: broken,
     }
 }
 
@@ -452,26 +460,24 @@ fn first_note(guide: &[[u16; 6]], from: usize) -> usize
     k
 }
 
-// Where the field ends that follows the one which ends at `end`; `end` itself where none follows.
-fn next_end(s: &[u8], e: u8, end: usize) -> usize
-    ensures { λ r. ⌜ r ≡ nextEnd e (now (s .entry)) end ⌝ }
+// Where the field starts that follows the one which ends at `end`; `end` itself where none follows.
+fn next_start(s: &[u8], end: usize) -> usize
+    ensures { λ r. ⌜ r ≡ nextStart (now (s .entry)) end ⌝ }
 {
     if end < s.len() {
-        return text::find_near(s, end + 1, e);
+        return end + 1;
     }
     end
 }
 
-// The field between the end of the one before it and its own.
-fn field_between(s: &[u8], end: usize, next: usize) -> &[u8]
-    requires { ⌜ next ≤ length (now s) ⌝ }
-    ensures { λ r. ⌜ now r ≡ take (next - (end + 1)) (drop (end + 1) (now (s .entry))) ⌝ }
+// A field ends at i: a separator stands there, or nothing.
+fn ends_field(s: &[u8], e: u8, i: usize) -> bool
+    ensures { λ r. ⌜ r ≡ endsField e (now (s .entry)) i ⌝ }
 {
-    if end < next {
-        let start = end + 1;
-        return &s[start..next];
+    if i < s.len() {
+        return s[i] == e;
     }
-    &s[0..0]
+    true
 }
 
 // The segment has no finding by its entry.
@@ -491,9 +497,14 @@ pub fn is_clean(s: &[u8], d: Delimiters, guide: &[[u16; 6]], entry: usize) -> bo
             k += 1;
             continue;
         }
-        let next = next_end(s, d.element, end);
-        let field = field_between(s, end, next);
-        if element_code(field, d, guide, k) != 0 {
+        let start = next_start(s, end);
+        let next = text::find_invalid(s, start, d);
+        // A byte that is neither valid nor a separator has code 6.
+        if !ends_field(s, d.element, next) {
+            return false;
+        }
+        let field = &s[start..next];
+        if !takes(field, guide, k) {
             return false;
         }
         if breaks_any(s, d.element, guide, notes, n, 0 < field.len()) {

@@ -3,12 +3,12 @@ use Prim.Native.Nat.{ℕ, zero, suc, _+_, _-_, _<_, _≤_}
 use mathlib.Core.Path.{_≡_, refl, sym, ap, _∙_}
 use mathlib.Core.Bool.{Bool, true, _&&_}
 use mathlib.Core.List.{List, [], _∷_}
-use native.Mathlib.Nat.{not-suc-le-zero, le-of-suc-le-suc}
+use native.Mathlib.Nat.{not-suc-le-zero, le-of-suc-le-suc, sub-zero}
 use native.Mathlib.Omega.{arith}
 use borrow.Author.Tests.{ltb-true}
 use lib.Dec.{ltb}
 use lib.ListN.{length, getD, take, drop}
-use lib.Seq.{slice}
+use lib.Seq.{slice, take-nil}
 use Rattle.rules.specs.Base.{Bytes, all, last}
 use Rattle.rules.specs.Cutting.{separators, fieldsAt, field, isa}
 use Rattle.rules.proofs.Logic.{all-at}
@@ -47,13 +47,21 @@ between-places i start (e ∷ []) m h = absurd (not-suc-le-zero (le-of-suc-le-su
 between-places i start (e ∷ (f ∷ es)) zero h = refl
 between-places i start (e ∷ (f ∷ es)) (suc m) h = between-places i (e + 1) (f ∷ es) m (le-of-suc-le-suc h)
 
-pub isa-next : (i : Bytes) (n : ℕ) → (n ≡ 0 → ⊥) → n < 16 → field (isa i) n ≡ slice (getD separators (n - 1) 0 + 1) (getD separators n 0) i
+-- what is left of the first b bytes without the first a
+slice-part : (a b : ℕ) (s : Bytes) → slice a b s ≡ take (b - a) (drop a s)
+slice-part zero b s = rw sub-zero
+slice-part (suc a) b [] = rw (take-nil b, take-nil (b - suc a))
+slice-part (suc a) zero (x ∷ xs) = let none : 0 - suc a ≡ 0 = omega arith in rw none
+slice-part (suc a) (suc b) (x ∷ xs) = let less : suc b - suc a ≡ b - a = omega arith in rw less (slice-part a b xs)
+
+pub isa-next : (i : Bytes) (n : ℕ) → (n ≡ 0 → ⊥) → n < 16
+    → field (isa i) n ≡ take (getD separators n 0 - (getD separators (n - 1) 0 + 1)) (drop (getD separators (n - 1) 0 + 1) i)
 unfolding isa
 isa-next i zero z h = absurd (z refl)
 isa-next i (suc m) z h =
     let n : suc m - 1 ≡ m = omega arith in
     let l : suc m < length separators = omega (arith, sixteen) in
-    rw n (between-places i 0 separators m l)
+    rw n (between-places i 0 separators m l ∙ slice-part (getD separators m 0 + 1) (getD separators (suc m) 0) i)
 
 pub last-at : (i : Bytes) → last 0 i ≡ getD i (length i - 1) 0
 unfolding last

@@ -4,7 +4,7 @@ ghost use mathlib.Core.Bool.{_&&_};
 ghost use mathlib.Core.List.{[], _∷_};
 ghost use Prim.Native.Nat.{_/_, _%_, _<_};
 ghost use lib.Dec.{leb};
-ghost use lib.ListN.{getD, take, drop};
+ghost use lib.ListN.{getD};
 ghost use Rattle.rules.specs.Base.{ascii, between, all, first, last, member};
 ghost use Rattle.rules.specs.Cutting as cutting;
 ghost use Rattle.rules.specs.Cutting.{field, isa, marks, separators, valid};
@@ -133,18 +133,18 @@ pub fn isa_field(i: &[u8], n: usize) -> &[u8]
     if FIELDS <= n {
         return &i[0..0];
     }
-    let bytes = up_to(i, separator(n));
+    let end = separator(n);
     if n == 0 {
-        return bytes;
+        return text::part(i, 0, end);
     }
-    from(bytes, separator(n - 1) + 1)
+    text::part(i, separator(n - 1) + 1, end)
 }
 
 // ISA, and a separator at each of its places.
 fn is_framed(i: &[u8]) -> bool
     ensures { λ r. ⌜ r ≡ framed (now (i .entry)) ⌝ }
 {
-    if !same_bytes(up_to(i, 3), &rules::ISA) {
+    if !same_bytes(text::part(i, 0, 3), &rules::ISA) {
         return false;
     }
     let mut k = 0;
@@ -237,26 +237,6 @@ fn separator(k: usize) -> usize
     ensures { λ r. ⌜ r ≡ getD separators k 0 ⌝ }
 {
     SEPARATORS[k]
-}
-
-// The first n bytes, all where there are fewer.
-fn up_to(i: &[u8], n: usize) -> &[u8]
-    ensures { λ r. ⌜ now r ≡ take n (now (i .entry)) ⌝ }
-{
-    if i.len() <= n {
-        return i;
-    }
-    &i[..n]
-}
-
-// The bytes after the first n.
-fn from(i: &[u8], n: usize) -> &[u8]
-    ensures { λ r. ⌜ now r ≡ drop n (now (i .entry)) ⌝ }
-{
-    if i.len() <= n {
-        return &i[0..0];
-    }
-    &i[n..]
 }
 
 // The byte at a place, 0 past the end.

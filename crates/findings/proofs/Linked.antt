@@ -5,26 +5,28 @@ use mathlib.Core.List.{List, [], _∷_, _++_, map, map-append, append-nil, appen
 use Prim.Native.Nat.{ℕ, zero, suc, _+_, _-_, _<_, _≤_}
 use native.Mathlib.Nat.{le-of-suc-le-suc, not-suc-le-zero}
 use native.Mathlib.Omega.{arith}
-use borrow.Author.Tests.{lt-ltb, ltb-true, ltb-false, ne-eqb}
+use borrow.Author.Tests.{lt-ltb, ltb-true, ltb-false}
 use lib.Dec.{ltb, eqb}
 use lib.ListN.{length, take, drop, getD, length-drop, length-map}
 use lib.Seq.{slice, slice-empty, take-nil, drop-drop, getD-drop}
-use Rattle.rules.specs.Base.{Bytes, ascii, null, all, between, same, member, keep, every, Rule, _⇒_, if_then_else_}
+use Rattle.rules.specs.Base.{Bytes, ascii, null, all, same, member, keep, every, _⇒_, if_then_else_}
 use Rattle.rules.specs.Cutting.{Segment, field, cutAt, pieces, segments}
 use Rattle.rules.specs.Tables.{Syntax, Entry, Row, column, isRow, filled, rowIs, codesIn, rowsIn, entryIs, entriesIn, idsIn, tableOf}
-use Rattle.rules.specs.Elements.{elementCode, lacks, shutsOut, placeCodes, found, findingsFrom, findings}
+use Rattle.rules.specs.Elements.{elementCode, placeCodes, found, findingsFrom, findings}
 use Rattle.rules.specs.Segments.{Note, echoed, noted, over, reach, missing, segmentNote, walk, notesOf, standing, against, ownCode, moved, checkedBy, findingsBy, skipped}
 use Rattle.rules.specs.Segments as law
 use Rattle.rules.specs.declared.Delimiters.{Delimiters}
 use Rattle.rules.specs.declared.Finding.{Finding}
 use Rattle.rules.proofs.Logic.{all-head, all-tail}
 use Rattle.text.proofs.Loops.{all-drop}
-use Rattle.text.proofs.Digits.{between-true}
-use Rattle.tables.specs.Reading.{Guide, Limits, isByte, entryAt, indexWhere, reachFrom, idIn, isEntryRow, idAt, idBytes, idsAreBytes}
+use Rattle.text.specs.Text.{indexWhere}
+use Rattle.tables.specs.Reading.{Guide, Limits, isByte, entryAt, reachFrom, idIn, isEntryRow, idAt, idBytes, idsAreBytes}
 use Rattle.tables.proofs.Laws as reading
+use Rattle.elements.specs.Places.{noteCode}
+use Rattle.elements.proofs.Places.{place-codes}
 use Rattle.findings.specs.Events.{Event, Line, Element, flat}
 use Rattle.findings.specs.Steps.{bumped, start, stands, ownOf, checkOf, entryOf, usedOf, passingOf, isChecked, codesOf}
-use Rattle.findings.specs.Left.{Slots, events, missingThen, foundSlot, surplusSlot, stagesThen, placesThen, lined, segmentThen, walkSlots, left}
+use Rattle.findings.specs.Left.{Slots, events, missingThen, foundSlot, surplusSlot, codesThen, placesThen, lined, segmentThen, walkSlots, left}
 use Rattle.findings.specs.declared.Standing.{Standing}
 use Rattle.findings.specs.declared.Standing.the-variants.{Unknown, Unlisted, Before, Again, Later}
 
@@ -118,22 +120,6 @@ module _ (id : Bytes) where
       go true false f (suc i) q k ih = rw f (ih i (omega arith) (le-of-suc-le-suc k))
 
 -- 3. The places of a segment.
--- a slot for each rule
-module _ (n : ℕ) (r : Row) (more : List Event) where
-  slot-law : (b : Bool) (code : ℕ) (rs : List Rule) (l : List Event) → (b ≡ true → eqb code 0 ≡ false)
-      → l ≡ map Element (map (found n r) (every rs)) ++ more
-      → foundSlot n (r .reference) (if b then code else 0) ++ l ≡ map Element (map (found n r) (every ((b ⇒ code) ∷ rs))) ++ more
-  unfolding every
-  slot-law true code rs l h q = rw (h refl) (ap (λ (x : List Event). Element (found n r code) ∷ x) q)
-  slot-law false code rs l h q = q
-
-  slot-none : more ≡ map Element (map (found n r) (every [])) ++ more
-  unfolding every
-  slot-none = refl
-
-own-some : (own : ℕ) → between 4 9 own ≡ true → eqb own 0 ≡ false
-own-some own h = let l = between-true 4 9 own h in ne-eqb own 0 (λ e. omega arith)
-
 module _ (d : Delimiters) (notes : List Syntax) (s : Segment) (rest : Slots) where
   surplus-law : (n : ℕ) → events (surplusSlot d notes s n ∷ rest) ≡ map Element (findingsFrom d notes s n []) ++ events rest
   unfolding events findingsFrom
@@ -144,18 +130,27 @@ module _ (d : Delimiters) (notes : List Syntax) (s : Segment) (rest : Slots) whe
       go true = refl
       go false = refl
 
-  stages-law : (r : List ℕ) (rs : Guide) (n : ℕ) (next : Slots)
-      → events (stagesThen d notes s r rs n 0 next)
+  codes-law : (r : List ℕ) (rs : Guide) (n : ℕ) (next : Slots)
+      → events (codesThen d notes s r rs n false next)
       ≡ map Element (map (found n (rowIs r (codesIn rs))) (placeCodes d notes s (rowIs r (codesIn rs)) n)) ++ events next
-  unfolding events placeCodes
-  stages-law r rs n next =
-      let row = rowIs r (codesIn rs) in
-      let own = elementCode d row (field s n) in
-      let slot = slot-law n row (events next) in
-      slot (eqb own 1) 1 _ _ (λ e. refl)
-      (slot (lacks notes s n) 2 _ _ (λ e. refl)
-      (slot (between 4 9 own) own _ _ (own-some own)
-      (slot (shutsOut notes s n) 10 [] _ (λ e. refl) (slot-none n row (events next)))))
+  unfolding events every
+  codes-law r rs n next = rw (place-codes notes s n d row) (go (eqb own 0) refl (eqb noted 0) refl)
+    where
+      row : Row
+      row = rowIs r (codesIn rs)
+
+      own : ℕ
+      own = elementCode d row (field s n)
+
+      noted : ℕ
+      noted = noteCode notes s n
+
+      go : (z : Bool) → eqb own 0 ≡ z → (w : Bool) → eqb noted 0 ≡ w
+          → events (codesThen d notes s r rs n false next) ≡ map Element (map (found n row) (every ((not z ⇒ own) ∷ (not w ⇒ noted) ∷ []))) ++ events next
+      go true e true f = rw (e, f)
+      go true e false f = rw (e, f)
+      go false e true f = rw (e, e, f)
+      go false e false f = rw (e, e, f)
 
   places-law : (rs : Guide) (n : ℕ) → Fits (n + length rs)
       → events (placesThen d notes s rs n rest) ≡ map Element (findingsFrom d notes s n (rowsIn rs)) ++ events rest
@@ -166,13 +161,13 @@ module _ (d : Delimiters) (notes : List Syntax) (s : Segment) (rest : Slots) whe
       go : (b c : Bool) → events (placesThen d notes s rs n rest) ≡ map Element (findingsFrom d notes s n (rowsIn rs)) ++ events rest
           → events (placesThen d notes s rs (n + 1) rest) ≡ map Element (findingsFrom d notes s (n + 1) (rowsIn rs)) ++ events rest
           → events (if b then surplusSlot d notes s n ∷ rest
-          else (if c then stagesThen d notes s r rs n 0 (placesThen d notes s rs (bumped n) rest) else [] ∷ placesThen d notes s rs n rest))
+          else (if c then codesThen d notes s r rs n false (placesThen d notes s rs (bumped n) rest) else placesThen d notes s rs n rest))
           ≡ map Element (findingsFrom d notes s n (if b then [] else (if c then rowIs r (codesIn rs) ∷ rowsIn rs else rowsIn rs))) ++ events rest
       go true c here next = surplus-law n
       go false true here next =
           let row = rowIs r (codesIn rs) in
           let fs = map (found n row) (placeCodes d notes s row n) in
-          stages-law r rs n (placesThen d notes s rs (bumped n) rest)
+          codes-law r rs n (placesThen d notes s rs (bumped n) rest)
           ∙ rw (bumped-low n (omega arith), next, map-append Element fs (findingsFrom d notes s (n + 1) (rowsIn rs)))
           (sym (append-assoc (map Element fs) _ (events rest)))
       go false false here next = here

@@ -11,7 +11,8 @@ use lib.ListN.{length, getD, drop, length-drop, length-take}
 use lib.Seq.{slice, drop-drop, getD-drop, getD-take}
 use Rattle.rules.specs.Base.{if_then_else_}
 use Rattle.rules.proofs.Logic.{and-left, and-right}
-use Rattle.tables.specs.Reading.{Guide, indexWhere, nextWhere, nextMandatory, isMandatoryRow, idAt, idBytes}
+use Rattle.text.specs.Text.{indexWhere, nextWhere}
+use Rattle.tables.specs.Reading.{Guide, nextMandatory, isMandatoryRow, idAt, idBytes}
 use Rattle.findings.specs.Events.{Event, Line}
 use Rattle.findings.specs.Left.{Slots, missingThen}
 

@@ -1,14 +1,13 @@
 -- The law of a step: what a walk has left is what the step says and what is left after it, whatever the cursor.
 use mathlib.Core.Path.{_≡_, refl, sym, ap, _∙_}
-use mathlib.Core.Bool.{Bool, true, false, _&&_, not, true≢false}
+use mathlib.Core.Bool.{Bool, true, false, _&&_, true≢false}
 use mathlib.Core.List.{List, [], _∷_, _++_}
 use Prim.Native.Nat.{ℕ, zero, suc, _+_, _-_, _<_}
 use native.Mathlib.Omega.{arith}
-use native.Mathlib.Numerals.{add-one}
-use borrow.Author.Tests.{lt-ltb, le-ltb, ltb-true, ltb-false, le-leb, eqb-true, ne-eqb, not-true, not-false}
+use borrow.Author.Tests.{lt-ltb, ltb-true, ltb-false, eqb-true, ne-eqb}
 use lib.Dec.{ltb, eqb}
-use lib.ListN.{length, take, drop, getD, drop-of-length-le, List·getD-eq-default}
-use lib.Seq.{slice, drop-cons}
+use lib.ListN.{length, take, drop, getD}
+use lib.Seq.{slice, drop-drop, getD-drop}
 use Rattle.rules.specs.Base.{Bytes, ascii, all, between, isUpperOrDigit, every, if_then_else_}
 use Rattle.rules.specs.Cutting.{Segment, field, split}
 use Rattle.rules.specs.Tables.{Syntax, column, isRow, filled}
@@ -16,14 +15,16 @@ use Rattle.rules.specs.Segments.{echoed}
 use Rattle.rules.specs.declared.Delimiters.{Delimiters}
 use Rattle.rules.specs.declared.Finding.{Finding}
 use Rattle.rules.proofs.Logic.{and-left, and-right, all-head, all-tail}
-use Rattle.text.specs.Text.{indexOf}
+use Rattle.text.specs.Text.{indexOf, indexWhere}
 use Rattle.text.proofs.Digits.{between-true}
-use Rattle.text.proofs.Search.{find-end}
 use Rattle.segments.proofs.Pieces.{segments-at, segments-none}
 use Rattle.tables.specs.Reading.{Guide, entryAt, reachFrom, nextMandatory, idBytes, isEntryRow}
-use Rattle.findings.specs.Events.{Line, Element}
-use Rattle.findings.specs.Steps.{bumped, to, echo, stands, taken, codesOf, absent, readStep, isFaulty, lineStep, passStep, codeAt, nextPlace, toldOf, placeStep, trailerStep, stepAt, step}
-use Rattle.findings.specs.Left.{Slots, missingThen, foundSlot, surplusSlot, stageSlot, stagesThen, placesThen, placesFrom, lined, segmentThen, walkSlots, after, hand, leftAt, left, said}
+use Rattle.text.proofs.Where.{next-here}
+use Rattle.tables.proofs.Laws.{row-within}
+use Rattle.elements.specs.declared.Coded.{Coded}
+use Rattle.findings.specs.Events.{Event, Line, Element}
+use Rattle.findings.specs.Steps.{bumped, to, echo, stands, taken, codesOf, absent, isPlaceRow, placeRow, readStep, isFaulty, lineStep, passStep, nextPlace, toldOf, elementStep, placeStep, trailerStep, stepAt, step}
+use Rattle.findings.specs.Left.{Slots, missingThen, foundSlot, surplusSlot, codeOf, codeSlot, codesThen, placesThen, placesFrom, lined, segmentThen, walkSlots, after, hand, leftAt, left, said}
 use Rattle.findings.specs.declared.Phase.{Phase}
 use Rattle.findings.specs.declared.Phase.the-variants.{Read, Passing, Place, Trailer}
 use Rattle.findings.specs.declared.Walk.{Walk}
@@ -66,60 +67,41 @@ echo-law id = go (between 2 3 (length id) && all isUpperOrDigit id) refl
     go false h = refl
 
 -- 2. The places of a segment, at a cursor in the rows.
-module _ (rows : Guide) (k : ℕ) where
-  abbrev here : List ℕ
-  here = getD rows k []
+element-in : (rows : Guide) (k : ℕ) → isRow 2 (getD rows k []) ≡ true → k < length rows
+element-in rows k e = row-within 2 (omega arith) rows k e
 
-  rows-cons : k < length rows → drop k rows ≡ here ∷ drop (k + 1) rows
-  rows-cons h = rw add-one (drop-cons rows k [] h)
+-- an element's row is the first from itself on
+element-first : (rows : Guide) (k : ℕ) → isRow 2 (getD rows k []) ≡ true → placeRow rows k ≡ k
+unfolding placeRow
+element-first rows k e = next-here isPlaceRow rows [] k (element-in rows k e) (rw (eqb-true (column (getD rows k []) 0) 2 e))
 
-  element-in : isRow 2 here ≡ true → k < length rows
-  element-in e = go (ltb k (length rows)) refl
+module _ (d : Delimiters) (notes : List Syntax) (s : Segment) (n : ℕ) (rest : Slots) where
+  -- the findings from the first row of a place on
+  abbrev atFirst : Guide → ℕ → Slots
+  atFirst xs i =
+      if isRow 2 (getD xs i []) then codesThen d notes s (getD xs i []) (drop (suc i) xs) n false (placesThen d notes s (drop (suc i) xs) (bumped n) rest)
+      else surplusSlot d notes s n ∷ rest
+
+  places-at : (xs : Guide) → placesThen d notes s xs n rest ≡ atFirst xs (indexWhere isPlaceRow xs)
+  unfolding placesThen indexWhere
+  places-at [] = refl
+  places-at (x ∷ xs) = go (isRow 1 x) refl (isRow 2 x) refl (places-at xs)
     where
-      go : (b : Bool) → ltb k (length rows) ≡ b → k < length rows
-      go true h = ltb-true k (length rows) h
-      go false h = absurd (true≢false (sym (rw (List·getD-eq-default rows [] (ltb-false k (length rows) h)) at e)))
+      go : (a : Bool) → isRow 1 x ≡ a → (b : Bool) → isRow 2 x ≡ b
+          → placesThen d notes s xs n rest ≡ atFirst xs (indexWhere isPlaceRow xs)
+          → placesThen d notes s (x ∷ xs) n rest ≡ atFirst (x ∷ xs) (indexWhere isPlaceRow (x ∷ xs))
+      go true e true f ih = absurd (true≢false (sym (rw (eqb-true (column x 0) 1 e) at f)))
+      go true e false f ih = rw (e, f)
+      go false e true f ih = rw (e, f, f)
+      go false e false f ih = rw (e, f) ih
 
-  element-test : isRow 2 here ≡ true → ltb k (length rows) && not (isRow 1 here) ≡ true
-  element-test e = rw (lt-ltb k (length rows) (element-in e), eqb-true (column here 0) 2 e)
-
-  module _ (d : Delimiters) (notes : List Syntax) (s : Segment) (n : ℕ) (rest : Slots) where
-    places-element : isRow 2 here ≡ true
-        → placesThen d notes s (drop k rows) n rest
-        ≡ stagesThen d notes s here (drop (k + 1) rows) n 0 (placesThen d notes s (drop (k + 1) rows) (bumped n) rest)
-    unfolding placesThen
-    places-element e =
-        let q : eqb (column here 0) 1 ≡ false = rw (eqb-true (column here 0) 2 e) in
-        rw (rows-cons (element-in e), q, e)
-
-    places-other : ltb k (length rows) && not (isRow 1 here) ≡ true → isRow 2 here ≡ false
-        → placesThen d notes s (drop k rows) n rest ≡ [] ∷ placesThen d notes s (drop (k + 1) rows) n rest
-    unfolding placesThen
-    places-other e f =
-        let h = ltb-true k (length rows) (and-left (ltb k (length rows)) (not (isRow 1 here)) e) in
-        let o = not-true (isRow 1 here) (and-right (ltb k (length rows)) (not (isRow 1 here)) e) in
-        rw (rows-cons h, o, f)
-
-    places-end : ltb k (length rows) && not (isRow 1 here) ≡ false → placesThen d notes s (drop k rows) n rest ≡ surplusSlot d notes s n ∷ rest
-    unfolding placesThen
-    places-end = go (ltb k (length rows)) refl
-      where
-        go : (b : Bool) → ltb k (length rows) ≡ b → b && not (isRow 1 here) ≡ false
-            → placesThen d notes s (drop k rows) n rest ≡ surplusSlot d notes s n ∷ rest
-        go true h e = rw (rows-cons (ltb-true k (length rows) h), not-false (isRow 1 here) e)
-        go false h e = rw (drop-of-length-le rows {i = k} (ltb-false k (length rows) h))
-
-    -- at its first stage a place is as it is from its row on
-    places-start : placesFrom d notes s rows k n 0 rest ≡ placesThen d notes s (drop k rows) n rest
-    unfolding placesFrom
-    places-start = go (isRow 2 here) refl
-      where
-        go : (b : Bool) → isRow 2 here ≡ b
-            → (if b then stagesThen d notes s here (drop (k + 1) rows) n 0 (placesThen d notes s (drop (k + 1) rows) (bumped n) rest)
-            else placesThen d notes s (drop k rows) n rest)
-            ≡ placesThen d notes s (drop k rows) n rest
-        go true e = sym (places-element e)
-        go false e = refl
+  -- at its first code a place is as it is from its row on
+  places-start : (rows : Guide) (k : ℕ) → placesFrom d notes s rows k n false rest ≡ placesThen d notes s (drop k rows) n rest
+  unfolding placesFrom placeRow
+  places-start rows k =
+      let i = indexWhere isPlaceRow (drop k rows) in
+      let q : k + suc i ≡ k + i + 1 = omega arith in
+      sym (rw (drop-drop, q, getD-drop) at (places-at (drop k rows)))
 
 -- the row that a search ends at is the same past a row that it passes
 reach-later : (rows : Guide) (k : ℕ) (id : Bytes) → nextMandatory rows k (reachFrom rows k id) < reachFrom rows k id
@@ -148,7 +130,7 @@ module _ (set : Bytes) (d : Delimiters) (ids : List (List ℕ)) (rows : Guide) (
   unfolding left to
   left-to w Read = refl
   left-to w (Passing k) = refl
-  left-to w (Place k n stage) = refl
+  left-to w (Place k n told) = refl
   left-to w (Trailer k) = refl
 
   -- 3. Reading.
@@ -156,12 +138,7 @@ module _ (set : Bytes) (d : Delimiters) (ids : List (List ℕ)) (rows : Guide) (
     taken-law : onward w
         ≡ [] ∷ leftBy (taken rows w end (stands ids rows (w .entry) (field (split (d .element) (take (end - w .at) (drop (w .at) set))) 0)))
     unfolding left taken walkSlots
-    taken-law =
-        rw (
-          segments-at d set (w .at) end h q,
-          le-leb (w .at) end (omega arith),
-          le-leb end (length set) (find-end (d .terminator) set (w .at) end q h),
-        )
+    taken-law = rw (segments-at d set (w .at) end h q)
 
   read-law : (w : Walk) → onward w ≡ says (readStep set d ids rows closed w)
   unfolding readStep walkSlots
@@ -197,7 +174,7 @@ module _ (set : Bytes) (d : Delimiters) (ids : List (List ℕ)) (rows : Guide) (
       id = field (held w) 0
 
       place : Phase
-      place = Place (bumped (w .check)) 1 0
+      place = Place (bumped (w .check)) 1 false
 
       told : Bool → line.Line
       told f = record { id = echo id; position = w .position; own = w .own; faulty = f }
@@ -206,7 +183,7 @@ module _ (set : Bytes) (d : Delimiters) (ids : List (List ℕ)) (rows : Guide) (
       places = placesThen d (entryAt rows (w .check) .notes) (held w) (drop (bumped (w .check)) rows) 1 (onward w)
 
       placed : leftBy (to w place) ≡ places
-      placed = left-to w place ∙ places-start rows (bumped (w .check)) d (entryAt rows (w .check) .notes) (held w) 1 (onward w)
+      placed = left-to w place ∙ places-start d (entryAt rows (w .check) .notes) (held w) 1 (onward w) rows (bumped (w .check))
 
       go : (f z : Bool) → eqb (w .own) 0 ≡ z
           → lined (echoed id) (w .position) (codesOf (w .own) f) ∷ (if f then places else onward w)
@@ -260,75 +237,77 @@ module _ (set : Bytes) (d : Delimiters) (ids : List (List ℕ)) (rows : Guide) (
       go true = refl
       go false = refl
 
-  module _ (w : Walk) (k n : ℕ) where
+  module _ (w : Walk) (n : ℕ) where
     abbrev notes : List Syntax
     notes = entryAt rows (w .check) .notes
 
     abbrev s : Segment
     s = held w
 
-    abbrev row : List ℕ
-    row = getD rows k []
-
     abbrev rest : Slots
     rest = onward w
 
-    in-element : isRow 2 row ≡ true → (stage : ℕ)
-        → remains w (Place k n stage)
-        ≡ stagesThen d notes s row (drop (k + 1) rows) n stage (placesThen d notes s (drop (k + 1) rows) (bumped n) rest)
+    in-element : (k j : ℕ) → placeRow rows k ≡ j → isRow 2 (getD rows j []) ≡ true → (told : Bool)
+        → remains w (Place k n told)
+        ≡ codesThen d notes s (getD rows j []) (drop (j + 1) rows) n told (placesThen d notes s (drop (j + 1) rows) (bumped n) rest)
     unfolding placesFrom
-    in-element e stage = rw e
+    in-element k j q e told = rw (q, e)
 
-    in-none : isRow 2 row ≡ false → (stage : ℕ) → remains w (Place k n stage) ≡ placesThen d notes s (drop k rows) n rest
+    in-none : (k : ℕ) → isRow 2 (getD rows (placeRow rows k) []) ≡ false → (told : Bool)
+        → remains w (Place k n told) ≡ surplusSlot d notes s n ∷ rest
     unfolding placesFrom
-    in-none e stage = rw e
+    in-none k e told = rw e
 
-    stage-law : isRow 2 row ≡ true → (stage : ℕ)
-        → remains w (Place k n stage)
-        ≡ stageSlot d notes s row (drop (k + 1) rows) n stage ∷ remains w (nextPlace k n stage)
-    stage-law e zero = rw (in-element e 0, in-element e 1)
-    stage-law e (suc zero) = rw (in-element e 1, in-element e 2)
-    stage-law e (suc (suc zero)) = rw (in-element e 2, in-element e 3)
-    stage-law e (suc (suc (suc j))) =
-        rw (
-          in-element e (suc (suc (suc j))),
-          le-ltb (suc (suc (suc j))) 3 (omega arith),
-          ne-eqb (suc (suc (suc j))) 0 (λ q. omega arith),
-          ne-eqb (suc (suc (suc j))) 1 (λ q. omega arith),
-          ne-eqb (suc (suc (suc j))) 2 (λ q. omega arith),
-          places-start rows (k + 1) d notes s (bumped n) rest,
-        )
+    module _ (k : ℕ) (told : Bool) where
+      abbrev here : ℕ
+      here = placeRow rows k
 
-    place-law : (stage : ℕ) → remains w (Place k n stage) ≡ says (placeStep set d rows w k n stage)
-    unfolding placeStep codeAt
-    place-law stage = go (ltb k (length rows) && not (isRow 1 row)) refl (isRow 2 row) refl
-      where
-        surplus : Finding
-        surplus = record { place = n; reference = 0; code = if ltb n (length s) then 3 else 0 }
+      abbrev row : List ℕ
+      row = getD rows here []
 
-        own : Finding
-        own = record { place = n; reference = column row 1; code = codeAt set d rows w k n stage }
+      abbrev slot : Bool → List Event
+      slot = codeSlot d notes s row (drop (here + 1) rows) n
 
-        next : Phase
-        next = nextPlace k n stage
+      abbrev coded : Coded
+      coded = codeOf d notes s row (drop (here + 1) rows) n told
 
-        go : (b : Bool) → ltb k (length rows) && not (isRow 1 row) ≡ b → (c : Bool) → isRow 2 row ≡ c
-            → remains w (Place k n stage)
-            ≡ says (if b then (if c then toldOf own (to w next) else Quiet (to w (Place (k + 1) n 0)))
-            else toldOf surplus (to w Read))
-        go true e true f = stage-law f stage ∙ rw (left-to w next) at (told-law own (to w next))
-        go true e false f =
-            in-none f stage
-            ∙ places-other rows k d notes s n rest e f
-            ∙ rw (left-to w (Place (k + 1) n 0), places-start rows (k + 1) d notes s n rest)
-        go false e true f = absurd (true≢false (sym (element-test rows k f) ∙ e))
-        go false e false f =
-            in-none f stage ∙ places-end rows k d notes s n rest e ∙ rw (left-to w Read) at (told-law surplus (to w Read))
+      code-law : isRow 2 row ≡ true → remains w (Place k n told) ≡ slot told ∷ remains w (nextPlace here n (coded .more))
+      code-law e = in-element k here refl e told ∙ ap (λ (l : Slots). slot told ∷ l) (go (coded .more))
+        where
+          next : Slots
+          next = placesThen d notes s (drop (here + 1) rows) (bumped n) rest
+
+          go : (more : Bool) → (if more then slot true ∷ next else next) ≡ remains w (nextPlace here n more)
+          go true = sym (in-element here here (element-first rows here e) e true)
+          go false = sym (places-start d notes s (bumped n) rest rows (here + 1))
+
+      place-law : remains w (Place k n told) ≡ says (placeStep set d rows w k n told)
+      unfolding placeStep elementStep
+      place-law = go (ltb here (length rows)) refl (isRow 2 row) refl
+        where
+          surplus : Finding
+          surplus = record { place = n; reference = 0; code = if ltb n (length s) then 3 else 0 }
+
+          own : Finding
+          own = record { place = n; reference = column row 1; code = coded .code }
+
+          next : Phase
+          next = nextPlace here n (coded .more)
+
+          ended : isRow 2 row ≡ false → remains w (Place k n told) ≡ says (toldOf surplus (to w Read))
+          ended f = in-none k f told ∙ rw (left-to w Read) at (told-law surplus (to w Read))
+
+          go : (b : Bool) → ltb here (length rows) ≡ b → (c : Bool) → isRow 2 row ≡ c
+              → remains w (Place k n told) ≡ says (if b && c then toldOf own (to w next) else toldOf surplus (to w Read))
+          go true e true f = code-law f ∙ rw (left-to w next) at (told-law own (to w next))
+          go true e false f = ended f
+          go false e true f = absurd (true≢false (sym (lt-ltb here (length rows) (element-in rows here f)) ∙ e))
+          go false e false f = ended f
 
   by-phase : (w : Walk) (p : Phase) → remains w p ≡ says (stepAt set d ids rows closed w p)
   by-phase w Read = read-law w
   by-phase w (Passing k) = pass-law w k
-  by-phase w (Place k n stage) = place-law w k n stage
+  by-phase w (Place k n told) = place-law w n k told
   by-phase w (Trailer k) = trailer-law w k
 
   pub step-law : (w : Walk) → left set d ids rows closed w ≡ said set d ids rows closed (step set d ids rows closed w)

@@ -13,9 +13,10 @@ use Rattle.rules.specs.Segments.{echoed}
 use Rattle.rules.specs.declared.Delimiters.{Delimiters}
 use Rattle.rules.specs.declared.Finding.{Finding}
 use Rattle.tables.specs.Reading.{Guide, entryAt, reachFrom, idAt, idBytes, isMandatoryRow}
-use Rattle.elements.specs.Places.{stageCode}
+use Rattle.elements.specs.Places.{nextCode}
+use Rattle.elements.specs.declared.Coded.{Coded}
 use Rattle.findings.specs.Events.{Event, Line, Element}
-use Rattle.findings.specs.Steps.{bumped, codesOf, isChecked, stands, ownOf, checkOf, entryOf, usedOf, passingOf, inHand}
+use Rattle.findings.specs.Steps.{bumped, codesOf, isChecked, placeRow, stands, ownOf, checkOf, entryOf, usedOf, passingOf, inHand}
 use Rattle.findings.specs.declared.Phase.{Phase}
 use Rattle.findings.specs.declared.Phase.the-variants.{Read, Passing, Place, Trailer}
 use Rattle.findings.specs.declared.Walk.{Walk}
@@ -48,17 +49,16 @@ module _ (d : Delimiters) (notes : List Syntax) (s : Segment) where
   abbrev pub surplusSlot : ℕ → List Event
   surplusSlot n = foundSlot n 0 (if ltb n (length s) then 3 else 0)
 
-  abbrev pub stageSlot : List ℕ → Guide → ℕ → ℕ → List Event
-  stageSlot r rs n stage = foundSlot n (column r 1) (stageCode d notes s (rowIs r (codesIn rs)) n stage)
+  -- the next code of an element's place, and its slot
+  abbrev pub codeOf : List ℕ → Guide → ℕ → Bool → Coded
+  codeOf r rs n told = nextCode d notes s (rowIs r (codesIn rs)) n told
 
-  -- the stages of an element's place from this one on; then the rest
-  abbrev pub stagesThen : List ℕ → Guide → ℕ → ℕ → Slots → Slots
-  stagesThen r rs n stage rest =
-      let third = stageSlot r rs n 2 ∷ (stageSlot r rs n 3 ∷ rest) in
-      if eqb stage 0 then stageSlot r rs n 0 ∷ (stageSlot r rs n 1 ∷ third)
-      else (if eqb stage 1 then stageSlot r rs n 1 ∷ third
-      else (if eqb stage 2 then third
-      else stageSlot r rs n stage ∷ rest))
+  abbrev pub codeSlot : List ℕ → Guide → ℕ → Bool → List Event
+  codeSlot r rs n told = foundSlot n (column r 1) (codeOf r rs n told .code)
+
+  -- the codes of an element's place from the next one on; then the rest
+  abbrev pub codesThen : List ℕ → Guide → ℕ → Bool → Slots → Slots
+  codesThen r rs n told rest = codeSlot r rs n told ∷ (if codeOf r rs n told .more then codeSlot r rs n true ∷ rest else rest)
 
   -- the findings of the rows from place n on; then the rest
   unfoldable pub placesThen : Guide → ℕ → Slots → Slots
@@ -66,13 +66,14 @@ module _ (d : Delimiters) (notes : List Syntax) (s : Segment) where
   placesThen (r ∷ rs) n rest =
       let here = placesThen rs n rest in
       let next = placesThen rs (bumped n) rest in
-      if isRow 1 r then surplusSlot n ∷ rest else (if isRow 2 r then stagesThen r rs n 0 next else [] ∷ here)
+      if isRow 1 r then surplusSlot n ∷ rest else (if isRow 2 r then codesThen r rs n false next else here)
 
-  -- the same in the midst of the element of row k
-  unfoldable pub placesFrom : Guide → ℕ → ℕ → ℕ → Slots → Slots
-  placesFrom rows k n stage rest =
-      if isRow 2 (getD rows k []) then stagesThen (getD rows k []) (drop (k + 1) rows) n stage (placesThen (drop (k + 1) rows) (bumped n) rest)
-      else placesThen (drop k rows) n rest
+  -- the same from row k on, in the midst of a place
+  unfoldable pub placesFrom : Guide → ℕ → ℕ → Bool → Slots → Slots
+  placesFrom rows k n told rest =
+      let row = placeRow rows k in
+      if isRow 2 (getD rows row []) then codesThen (getD rows row []) (drop (row + 1) rows) n told (placesThen (drop (row + 1) rows) (bumped n) rest)
+      else surplusSlot n ∷ rest
 
 -- an AK3 where there are codes
 abbrev pub lined : Bytes → ℕ → List ℕ → List Event
@@ -108,7 +109,7 @@ module _ (set : Bytes) (d : Delimiters) (ids : List (List ℕ)) (rows : Guide) (
   leftAt w Read = after w
   leftAt w (Passing k) =
       missingThen (w .position) (slice k (w .entry) rows) (segmentThen d ids rows closed (w .own) (w .check) (w .position) (hand w) (after w))
-  leftAt w (Place k n stage) = placesFrom d (entryAt rows (w .check) .notes) (hand w) rows k n stage (after w)
+  leftAt w (Place k n told) = placesFrom d (entryAt rows (w .check) .notes) (hand w) rows k n told (after w)
   leftAt w (Trailer k) = missingThen (bumped (w .position)) (slice k (reachFrom rows k (ascii "SE")) rows) []
 
   unfoldable pub left : Walk → Slots

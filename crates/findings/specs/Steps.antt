@@ -1,8 +1,8 @@
 -- One step of the walk, as a function of the cursor: total, whatever the cursor says.
 use Prim.Native.Nat.{ℕ, _+_, _-_}
-use mathlib.Core.Bool.{Bool, true, false, _&&_, not}
+use mathlib.Core.Bool.{Bool, true, false, _&&_, _||_, not}
 use mathlib.Core.List.{List, [], _∷_}
-use lib.Dec.{leb, ltb, eqb}
+use lib.Dec.{ltb, eqb}
 use lib.ListN.{length, take, drop, getD}
 use Rattle.rules.specs.Base.{Bytes, Rule, _⇒_, every, ascii, null, all, between, isUpperOrDigit, member, same, if_then_else_}
 use Rattle.rules.specs.Cutting.{Segment, field, split}
@@ -10,10 +10,10 @@ use Rattle.rules.specs.Tables.{column, isRow, idsIn}
 use Rattle.rules.specs.Elements.{findings}
 use Rattle.rules.specs.declared.Delimiters.{Delimiters}
 use Rattle.rules.specs.declared.Finding.{Finding}
-use Rattle.text.specs.Text.{indexOf}
+use Rattle.text.specs.Text.{indexOf, nextWhere}
 use Rattle.tables.specs.Reading.{Guide, entryAt, rowAt, reachFrom, nextMandatory, idAt}
 use Rattle.tables.specs.declared.SegmentId.{SegmentId}
-use Rattle.elements.specs.Places.{stageCode}
+use Rattle.elements.specs.Places.{nextCode}
 use Rattle.findings.specs.declared.Phase.{Phase}
 use Rattle.findings.specs.declared.Phase.the-variants.{Read, Passing, Place, Trailer}
 use Rattle.findings.specs.declared.Walk.{Walk}
@@ -26,10 +26,6 @@ use Rattle.findings.specs.declared.Step.the-variants as tell
 -- one more, as far as 64 bits go
 abbrev pub bumped : ℕ → ℕ
 bumped n = if ltb n 18446744073709551615 then n + 1 else n
-
--- from a to e, nothing where these are no part of the bytes
-abbrev pub part : Bytes → ℕ → ℕ → Bytes
-part s a e = if leb a e && leb e (length s) then take (e - a) (drop a s) else []
 
 -- where a walk starts
 unfoldable pub start : Walk
@@ -141,9 +137,17 @@ codesOf own faulty = every ((not (eqb own 0) ⇒ own) ∷ (faulty ⇒ 8) ∷ [])
 abbrev pub absent : Guide → ℕ → ℕ → Line
 absent rows k position = record { id = idAt rows k; position = position; own = 3; faulty = false }
 
+-- an element's row, or the row of the next segment
+abbrev pub isPlaceRow : List ℕ → Bool
+isPlaceRow r = isRow 1 r || isRow 2 r
+
+-- the first such row from row k on
+unfoldable pub placeRow : Guide → ℕ → ℕ
+placeRow rows k = nextWhere isPlaceRow rows k
+
 -- the next code of a place, or the next place
-abbrev pub nextPlace : ℕ → ℕ → ℕ → Phase
-nextPlace k n stage = if ltb stage 3 then Place k n (stage + 1) else Place (k + 1) (bumped n) 0
+abbrev pub nextPlace : ℕ → ℕ → Bool → Phase
+nextPlace k n more = if more then Place k n true else Place (k + 1) (bumped n) false
 
 -- a finding, where there is a code
 abbrev pub toldOf : Finding → Walk → Step
@@ -159,7 +163,7 @@ trailerStep rows w k =
 
 -- the fields of the segment in hand
 abbrev pub inHand : Bytes → Delimiters → Walk → Segment
-inHand set d w = split (d .element) (part set (w .start) (w .end))
+inHand set d w = split (d .element) (take (w .end - w .start) (drop (w .start) set))
 
 module _ (set : Bytes) (d : Delimiters) (rows : Guide) where
   -- the elements of the segment in hand are checked, and something is found
@@ -171,7 +175,7 @@ module _ (set : Bytes) (d : Delimiters) (rows : Guide) where
   lineStep w =
       let faulty = isFaulty w in
       let line : Line = record { id = echo (field (inHand set d w) 0); position = w .position; own = w .own; faulty = faulty } in
-      if faulty then tell.Segment line (to w (Place (bumped (w .check)) 1 0))
+      if faulty then tell.Segment line (to w (Place (bumped (w .check)) 1 false))
       else (if eqb (w .own) 0 then tell.Quiet (to w Read) else tell.Segment line (to w Read))
 
   -- the next mandatory entry that the segment in hand passes over; after the last, its own note
@@ -181,18 +185,18 @@ module _ (set : Bytes) (d : Delimiters) (rows : Guide) where
       if ltb m (w .entry) && ltb m (length rows) then tell.Segment (absent rows m (w .position)) (to w (Passing (m + 1)))
       else lineStep w
 
-  -- the code that stands at place n by the element of row k, as the first, second, third or fourth; 0 for none
-  unfoldable pub codeAt : Walk → ℕ → ℕ → ℕ → ℕ
-  codeAt w k n stage = stageCode d (entryAt rows (w .check) .notes) (inHand set d w) (rowAt rows k) n stage
+  -- the next code of place n by the element of row k
+  unfoldable pub elementStep : Walk → ℕ → ℕ → Bool → Step
+  elementStep w k n told =
+      let coded = nextCode d (entryAt rows (w .check) .notes) (inHand set d w) (rowAt rows k) n told in
+      toldOf (record { place = n; reference = column (getD rows k []) 1; code = coded .code }) (to w (nextPlace k n (coded .more)))
 
-  -- row k: the element at place n, a row that is passed by, or the end of the segment's rows
-  unfoldable pub placeStep : Walk → ℕ → ℕ → ℕ → Step
-  placeStep w k n stage =
-      let row = getD rows k [] in
+  -- the next element from row k on, at place n, or the end of the segment's rows
+  unfoldable pub placeStep : Walk → ℕ → ℕ → Bool → Step
+  placeStep w k n told =
+      let row = placeRow rows k in
       let surplus : ℕ = if ltb n (length (inHand set d w)) then 3 else 0 in
-      if ltb k (length rows) && not (isRow 1 row) then (if isRow 2 row
-      then toldOf (record { place = n; reference = column row 1; code = codeAt w k n stage }) (to w (nextPlace k n stage))
-      else tell.Quiet (to w (Place (k + 1) n 0)))
+      if ltb row (length rows) && isRow 2 (getD rows row []) then elementStep w row n told
       else toldOf (record { place = n; reference = 0; code = surplus }) (to w Read)
 
 module _ (set : Bytes) (d : Delimiters) (ids : List (List ℕ)) (rows : Guide) (closed : Bool) where
@@ -207,7 +211,7 @@ module _ (set : Bytes) (d : Delimiters) (ids : List (List ℕ)) (rows : Guide) (
   abbrev pub stepAt : Walk → Phase → Step
   stepAt w Read = readStep w
   stepAt w (Passing k) = passStep set d rows w k
-  stepAt w (Place k n stage) = placeStep set d rows w k n stage
+  stepAt w (Place k n told) = placeStep set d rows w k n told
   stepAt w (Trailer k) = trailerStep rows w k
 
   unfoldable pub step : Walk → Step

@@ -23,8 +23,8 @@ pub enum Phase {
     Read,
     // the mandatory entries that the segment in hand passes over, from this row on; after them, its own note
     Passing(usize),
-    // the element of this row, at this place, and which of the place's codes is next
-    Place(usize, usize, usize),
+    // the next element from this row on, at this place, and whether the code of its value is told
+    Place(usize, usize, bool),
     // the mandatory entries that a missing trailer passes over, from this row on
     Trailer(usize),
 }
@@ -88,16 +88,6 @@ fn bumped(n: usize) -> usize
         return n + 1;
     }
     n
-}
-
-// The bytes from a to e; none where these are no part of them.
-fn part(s: &[u8], a: usize, e: usize) -> &[u8]
-    ensures { λ r. ⌜ now r ≡ steps.part (now (s .entry)) a e ⌝ }
-{
-    if a <= e && e <= s.len() {
-        return &s[a..e];
-    }
-    &s[0..0]
 }
 
 // Where the walk of a set starts.
@@ -332,14 +322,14 @@ fn is_checked(own: u8) -> bool
 fn is_faulty(set: &[u8], d: Delimiters, guide: &[[u16; 6]], w: Walk) -> bool
     ensures { λ r. ⌜ r ≡ steps.isFaulty (now (set .entry)) d (now (guide .entry)) w ⌝ }
 {
-    is_checked(w.own) && !elements::is_clean(part(set, w.start, w.end), d, guide, w.check)
+    is_checked(w.own) && !elements::is_clean(text::part(set, w.start, w.end), d, guide, w.check)
 }
 
 // What is told of the segment in hand.
 fn line_of(set: &[u8], d: Delimiters, w: Walk, faulty: bool) -> Line
     ensures { λ r. ⌜ r ≡ record { id = steps.echo (cutting.field (steps.inHand (now (set .entry)) d w) 0); position = w .position; own = w .own; faulty = faulty } ⌝ }
 {
-    let id = segments::id(part(set, w.start, w.end), d.element);
+    let id = segments::id(text::part(set, w.start, w.end), d.element);
     Line {
         id: echo(id),
         position: w.position,
@@ -354,7 +344,7 @@ fn note(set: &[u8], d: Delimiters, guide: &[[u16; 6]], w: Walk) -> Step
 {
     if is_faulty(set, d, guide, w) {
         let line = line_of(set, d, w, true);
-        return Step::Segment(line, to(w, Phase::Place(bumped(w.check), 1, 0)));
+        return Step::Segment(line, to(w, Phase::Place(bumped(w.check), 1, false)));
     }
     if w.own == 0 {
         return Step::Quiet(to(w, Phase::Read));
@@ -375,14 +365,14 @@ fn pass(set: &[u8], d: Delimiters, guide: &[[u16; 6]], w: Walk, k: usize) -> Ste
 }
 
 // The next code of a place, or the next place.
-fn next_place(k: usize, n: usize, stage: usize) -> Phase
+fn next_place(k: usize, n: usize, more: bool) -> Phase
     requires { ⌜ k < 18446744073709551615 ⌝ }
-    ensures { λ r. ⌜ r ≡ steps.nextPlace k n stage ⌝ }
+    ensures { λ r. ⌜ r ≡ steps.nextPlace k n more ⌝ }
 {
-    if stage < 3 {
-        return Phase::Place(k, n, stage + 1);
+    if more {
+        return Phase::Place(k, n, true);
     }
-    Phase::Place(k + 1, bumped(n), 0)
+    Phase::Place(k + 1, bumped(n), false)
 }
 
 // The next code of place n by the element of row k.
@@ -393,18 +383,26 @@ fn element(
     w: Walk,
     k: usize,
     n: usize,
-    stage: usize,
+    told: bool,
 ) -> Step
     requires { ⌜ k < 18446744073709551615 ⌝ }
-    ensures { λ r. ⌜ r ≡ steps.toldOf (record { place = n; reference = law.column (getD (now (guide .entry)) k []) 1; code = steps.codeAt (now (set .entry)) d (now (guide .entry)) w k n stage }) (steps.to w (steps.nextPlace k n stage)) ⌝ }
+    ensures { λ r. ⌜ r ≡ steps.elementStep (now (set .entry)) d (now (guide .entry)) w k n told ⌝ }
 {
-    let code = elements::code_at(part(set, w.start, w.end), d, guide, w.check, k, n, stage);
-    let onward = to(w, next_place(k, n, stage));
-    if code == 0 {
+    let coded = elements::next_code(
+        text::part(set, w.start, w.end),
+        d,
+        guide,
+        w.check,
+        k,
+        n,
+        told,
+    );
+    let onward = to(w, next_place(k, n, coded.more));
+    if coded.code == 0 {
         return Step::Quiet(onward);
     }
     let reference = tables::number(guide, k, REFERENCE);
-    Step::Element(Finding::new(n, reference, code), onward)
+    Step::Element(Finding::new(n, reference, coded.code), onward)
 }
 
 // Code 3 where the segment in hand has an element at place n, beyond its rows.
@@ -412,13 +410,27 @@ fn surplus(set: &[u8], d: Delimiters, w: Walk, n: usize) -> Step
     ensures { λ r. ⌜ r ≡ steps.toldOf (record { place = n; reference = 0; code = if ltb n (length (steps.inHand (now (set .entry)) d w)) then 3 else 0 }) (steps.to w phase.Read) ⌝ }
 {
     let onward = to(w, Phase::Read);
-    if n < segments::field_count(part(set, w.start, w.end), d.element) {
+    if n < segments::field_count(text::part(set, w.start, w.end), d.element) {
         return Step::Element(Finding::new(n, 0, 3), onward);
     }
     Step::Quiet(onward)
 }
 
-// Row k: the element at place n, a row that is passed by, or the end of the segment's rows.
+// The first element or segment from row `from` on; the number of rows where there is none, and `from` where that is past the end.
+fn place_row(guide: &[[u16; 6]], from: usize) -> usize
+    ensures { λ r. ⌜ r ≡ steps.placeRow (now (guide .entry)) from ⌝ }
+{
+    let mut k = from;
+    while k < guide.len() {
+        if tables::is_segment(guide, k) | tables::is_element(guide, k) {
+            return k;
+        }
+        k += 1;
+    }
+    k
+}
+
+// The next element from row k on, at place n, or the end of the segment's rows.
 fn place(
     set: &[u8],
     d: Delimiters,
@@ -426,15 +438,13 @@ fn place(
     w: Walk,
     k: usize,
     n: usize,
-    stage: usize,
+    told: bool,
 ) -> Step
-    ensures { λ r. ⌜ r ≡ steps.placeStep (now (set .entry)) d (now (guide .entry)) w k n stage ⌝ }
+    ensures { λ r. ⌜ r ≡ steps.placeStep (now (set .entry)) d (now (guide .entry)) w k n told ⌝ }
 {
-    if k < guide.len() && !tables::is_segment(guide, k) {
-        if tables::is_element(guide, k) {
-            return element(set, d, guide, w, k, n, stage);
-        }
-        return Step::Quiet(to(w, Phase::Place(k + 1, n, 0)));
+    let row = place_row(guide, k);
+    if row < guide.len() && tables::is_element(guide, row) {
+        return element(set, d, guide, w, row, n, told);
     }
     surplus(set, d, w, n)
 }
@@ -467,7 +477,7 @@ pub fn next(
     match phase {
         Phase::Read => read(set, d, directory, guide, closed, w),
         Phase::Passing(k) => pass(set, d, guide, w, k),
-        Phase::Place(k, n, stage) => place(set, d, guide, w, k, n, stage),
+        Phase::Place(k, n, told) => place(set, d, guide, w, k, n, told),
         Phase::Trailer(k) => trailer(guide, w, k),
     }
 }

@@ -25,6 +25,7 @@ use Rattle.text.proofs.is_day.Reads as text-is-day
 use Rattle.text.proofs.is_date.Reads as text-is-date
 use Rattle.text.proofs.is_time.Reads as text-is-time
 use Rattle.text.proofs.is_valid.Reads as text-is-valid
+use Rattle.text.proofs.find_invalid.Reads as text-find-invalid
 use Rattle.text.proofs.all_valid.Reads as text-all-valid
 use Rattle.text.proofs.is_text.Reads as text-is-text
 use Rattle.text.proofs.is_name.Reads as text-is-name
@@ -44,11 +45,10 @@ use Rattle.headers.proofs.trailer_refusal.Reads as headers-trailer-refusal
 use Rattle.headers.proofs.header_refusal.Reads as headers-header-refusal
 use Rattle.headers.proofs.answer_refusal.Reads as headers-answer-refusal
 use Rattle.sets.proofs.next_set.Reads as sets-next-set
-use Rattle.sets.proofs.part.Reads as sets-part
+use Rattle.text.proofs.part.Reads as text-part
 use Rattle.sets.proofs.set_refusal.Reads as sets-set-refusal
 use Rattle.sets.proofs.control_at.Reads as sets-control-at
-use Rattle.register.proofs.bucket_of.Reads as register-bucket-of
-use Rattle.register.proofs.is_repeated.Reads as register-is-repeated
+use Rattle.register.proofs.search.Reads as register-search
 use Rattle.refusals.proofs.check.Reads as refusals-check
 use Rattle.verdicts.proofs.Codes.none.Reads as verdicts-Codes-none
 use Rattle.verdicts.proofs.Codes.with.Reads as verdicts-Codes-with
@@ -84,9 +84,7 @@ use Rattle.guides.proofs.directory.Reads as guides-directory
 use Rattle.guides.proofs.guide_006010.Reads as guides-guide-006010
 use Rattle.guides.proofs.guide_004010.Reads as guides-guide-004010
 use Rattle.elements.proofs.element_code.Reads as elements-element-code
-use Rattle.elements.proofs.lacks.Reads as elements-lacks
-use Rattle.elements.proofs.shuts_out.Reads as elements-shuts-out
-use Rattle.elements.proofs.code_at.Reads as elements-code-at
+use Rattle.elements.proofs.next_code.Reads as elements-next-code
 use Rattle.elements.proofs.is_clean.Reads as elements-is-clean
 use Rattle.findings.proofs.start.Reads as findings-start
 use Rattle.findings.proofs.next.Reads as findings-next
@@ -196,6 +194,9 @@ text-is-time-once κs a r₁ r₂ s₁ s₂ p q = p ∙ sym q
 text-is-valid-once : Once text-is-valid.Post (λ κs r s. r)
 text-is-valid-once κs a r₁ r₂ s₁ s₂ p q = p ∙ sym q
 
+text-find-invalid-once : Once text-find-invalid.Post (λ κs r s. r)
+text-find-invalid-once κs a r₁ r₂ s₁ s₂ p q = p ∙ sym q
+
 text-all-valid-once : Once text-all-valid.Post (λ κs r s. r)
 text-all-valid-once κs a r₁ r₂ s₁ s₂ p q = p ∙ sym q
 
@@ -258,8 +259,8 @@ headers-answer-refusal-once κs a r₁ r₂ s₁ s₂ p q = p ∙ sym q
 sets-next-set-once : Once sets-next-set.Post (λ κs r s. r)
 sets-next-set-once κs a r₁ r₂ s₁ s₂ p q = p ∙ sym q
 
-sets-part-once : Once sets-part.Post (λ κs r s. now r)
-sets-part-once κs a r₁ r₂ s₁ s₂ p q = p ∙ sym q
+text-part-once : Once text-part.Post (λ κs r s. now r)
+text-part-once κs a r₁ r₂ s₁ s₂ p q = p ∙ sym q
 
 sets-set-refusal-once : Once sets-set-refusal.Post (λ κs r s. r)
 sets-set-refusal-once κs a r₁ r₂ s₁ s₂ p q = p ∙ sym q
@@ -268,11 +269,8 @@ sets-control-at-once : Once sets-control-at.Post (λ κs r s. now r)
 sets-control-at-once κs a r₁ r₂ s₁ s₂ p q = p ∙ sym q
 
 -- register
-register-bucket-of-once : Once register-bucket-of.Post (λ κs r s. r)
-register-bucket-of-once κs a r₁ r₂ s₁ s₂ p q = p ∙ sym q
-
-register-is-repeated-once : Once register-is-repeated.Post (λ κs r s. r)
-register-is-repeated-once κs a r₁ r₂ s₁ s₂ p q = p ∙ sym q
+register-search-once : Once register-search.Post (λ κs r s. r)
+register-search-once κs a r₁ r₂ s₁ s₂ p q = p ∙ sym q
 
 -- refusals
 refusals-check-once : Once refusals-check.Post (λ κs r s. r)
@@ -384,14 +382,8 @@ guides-guide-004010-once κs a r₁ r₂ s₁ s₂ p q = p ∙ sym q
 elements-element-code-once : Once elements-element-code.Post (λ κs r s. r)
 elements-element-code-once κs a r₁ r₂ s₁ s₂ p q = p ∙ sym q
 
-elements-lacks-once : Once elements-lacks.Post (λ κs r s. r)
-elements-lacks-once κs a r₁ r₂ s₁ s₂ p q = p ∙ sym q
-
-elements-shuts-out-once : Once elements-shuts-out.Post (λ κs r s. r)
-elements-shuts-out-once κs a r₁ r₂ s₁ s₂ p q = p ∙ sym q
-
-elements-code-at-once : Once elements-code-at.Post (λ κs r s. r)
-elements-code-at-once κs a r₁ r₂ s₁ s₂ p q = p ∙ sym q
+elements-next-code-once : Once elements-next-code.Post (λ κs r s. r)
+elements-next-code-once κs a r₁ r₂ s₁ s₂ p q = p ∙ sym q
 
 elements-is-clean-once : Once elements-is-clean.Post (λ κs r s. r)
 elements-is-clean-once κs a r₁ r₂ s₁ s₂ p q = p ∙ sym q

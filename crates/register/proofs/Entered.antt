@@ -1,118 +1,84 @@
--- The first n sets in their buckets: what is found from a bucket's head on is what is found among all of them.
-use Prim.Native.Nat.{ℕ, zero, suc, _+_, _<_, _≤_}
+-- The first n sets in the trees of their buckets: what a search finds is what is found among all of them.
+use Prim.Native.Nat.{ℕ, zero, suc, _+_, _/_, _-_, _<_, _≤_}
 use mathlib.Core.Path.{_≡_, refl, sym, ap, _∙_}
-use mathlib.Core.Bool.{Bool, true, false, _||_}
+use mathlib.Core.Bool.{Bool, true, false, _||_, true≢false}
 use mathlib.Core.List.{List, [], _∷_, _++_, map, map-append}
-use native.Mathlib.Nat.{mod-lt, min-eq-left}
 use native.Mathlib.Numerals.{add-one}
 use native.Mathlib.Omega.{arith}
-use borrow.Author.Tests.{eqb-true, eqb-false, eq-eqb}
+use borrow.Author.Tests.{eqb-true, eqb-false, lt-leb}
 use lib.Dec.{eqb}
 use lib.ListN.{length, take, getD, set, length-set}
-use lib.Seq.{take-suc, getD-set-same, getD-set-other}
-use Rattle.rules.specs.Base.{Bytes, same, any, member, if_then_else_}
+use lib.Seq.{take-suc, take-set-le, getD-set-same, getD-set-other}
+use Rattle.rules.specs.Base.{Bytes, same, any, member}
 use Rattle.rules.specs.declared.Delimiters.{Delimiters}
 use Rattle.rules.proofs.Logic.{same→eq}
+use Rattle.text.proofs.Loops.{or-false}
 use Rattle.sets.specs.Places.{controlAt, controlsAt}
-use Rattle.register.specs.Chains.{bucketFrom, bucketOf, reached, chain, controlsOf}
-use Rattle.register.proofs.Chains.{reached-next, reached-store}
+use Rattle.register.specs.declared.Found.{Found}
+use Rattle.register.specs.declared.Found.the-variants.{Repeated, Free}
+use Rattle.register.specs.Trees.{bucketOf, bitAt, slotOf, walk, search, isRepeated, linkedBy}
+use Rattle.register.proofs.Trees.{bucket-below, bit-below, walk-turn, walk-ends, walk-cases}
 
-bucket-from-below : (n : ℕ) (c : Bytes) → n < 1024 → bucketFrom n c < 1024
-unfolding bucketFrom
-bucket-from-below n [] h = h
-bucket-from-below n (b ∷ bs) h = bucket-from-below _ bs (mod-lt _ (omega arith))
+-- The links lead to the first n sets alone, and a search finds a number where it is one of theirs.
+pub record Entered (d : Delimiters) (body : Bytes) (starts links : List ℕ) (n : ℕ) : Type 0 where
+  pub linked : (s : ℕ) → getD links s 0 ≤ n
+  pub unlinked : (s : ℕ) → slotOf n 0 ≤ s → getD links s 0 ≡ 0
+  pub finds : (c : Bytes) → isRepeated (search d body starts links c) ≡ member c (controlsAt d body (take n starts))
 
-pub bucket-below : (c : Bytes) → bucketOf c < 1024
-bucket-below c = bucket-from-below 0 c (omega arith)
+-- 1. A search.
+-- one past the set that a slot belongs to, 0 for that of a bucket: the last set of each search that comes to the slot
+abbrev ownerOf : ℕ → ℕ
+ownerOf slot = (slot - 1022) / 2
 
--- the bucket of the set that starts at a place
-abbrev bucketAt : Delimiters → Bytes → ℕ → ℕ
-bucketAt d body at = bucketOf (controlAt d body at)
+owner-next : (k b : ℕ) → 0 < k → b < 2 → k ≡ ownerOf (slotOf (k - 1) b)
+owner-next k b h l = omega arith
 
--- those of the first n sets whose control number falls into bucket b, latest first
-unfoldable pub inBucket : Delimiters → Bytes → List ℕ → ℕ → ℕ → List ℕ
-inBucket d body starts b zero = []
-inBucket d body starts b (suc k) =
-    let r = inBucket d body starts b k in if eqb (bucketAt d body (getD starts k 0)) b then k ∷ r else r
+abbrev slotIn : Found → ℕ
+slotIn Repeated = 0
+slotIn (Free slot) = slot
 
-pub record Entered (d : Delimiters) (body : Bytes) (starts heads links : List ℕ) (n : ℕ) : Type 0 where
-  pub room : n ≤ length starts
-  pub below : (b : ℕ) → getD heads b 0 ≤ n
-  pub chained : (b : ℕ) → reached links (getD heads b 0) ≡ inBucket d body starts b n
+-- the free slot that a search comes to: one of a bucket or of the first n sets, and its link leads nowhere
+module _ (d : Delimiters) (body : Bytes) (starts links : List ℕ) (n : ℕ) (linked : (s : ℕ) → getD links s 0 ≤ n) (c : Bytes) (s : ℕ) where
+  walk-free : (f slot last i : ℕ) → last ≤ n → n < f + last → last ≡ ownerOf slot → slot < slotOf n 0
+      → walk f d body starts links c slot last i ≡ Free s → (s < slotOf n 0) × (getD links s 0 ≤ ownerOf s)
+  walk-free zero slot last i h k o l = absurd (omega arith)
+  walk-free (suc f) slot last i h k o l =
+      let next = getD links slot 0 in
+      let most = linked slot in
+      let bit = bit-below c i in
+      walk-cases d body starts links c (λ (r : Found). r ≡ Free s → (s < slotOf n 0) × (getD links s 0 ≤ ownerOf s)) f slot last i
+      (λ e p. rw (← ap slotIn p) (l, rw o at e))
+      (λ e q p. absurd (true≢false (ap isRepeated p)))
+      (λ e q. walk-free f (slotOf (next - 1) (bitAt c i)) next (i + 1) most (omega arith) (owner-next next (bitAt c i) (omega arith) bit) (omega arith))
 
-pub heads-below : {d : Delimiters} {body : Bytes} {starts heads links : List ℕ} {n : ℕ}
-    → Entered d body starts heads links n → (b : ℕ) → getD heads b 0 ≤ n
-heads-below e b = e .below b
+  search-free : n < 65536 → search d body starts links c ≡ Free s → (s < slotOf n 0) × (getD links s 0 ≤ ownerOf s)
+  unfolding search
+  search-free few p = let b = bucket-below c in walk-free 65536 (bucketOf c) 0 0 (omega arith) (omega arith) (omega arith) (omega arith) p
 
-pub entered-none : (d : Delimiters) (body : Bytes) (starts heads links : List ℕ)
-    → ((b : ℕ) → getD heads b 0 ≡ 0) → Entered d body starts heads links 0
-unfolding inBucket reached chain
-entered-none d body starts heads links h = record {
-  room = omega arith;
-  below = λ b. omega (arith, h b);
-  chained = λ b. rw (h b);
+-- 2. A store into the starts past the first n sets.
+module _ (d : Delimiters) (body : Bytes) (starts links : List ℕ) (n : ℕ) (linked : (s : ℕ) → getD links s 0 ≤ n) (c : Bytes) (at : ℕ) where
+  walk-start : (f slot last i : ℕ) → walk f d body (set starts n at) links c slot last i ≡ walk f d body starts links c slot last i
+  unfolding walk
+  walk-start zero slot last i = refl
+  walk-start (suc f) slot last i =
+      let next = getD links slot 0 in
+      let most = linked slot in
+      let onward = walk-start f (slotOf (next - 1) (bitAt c i)) next (i + 1) in
+      walk-cases d body starts links c (λ (r : Found). walk (suc f) d body (set starts n at) links c slot last i ≡ r) f slot last i
+      (λ e. walk-ends d body (set starts n at) links c (suc f) slot last i e)
+      (λ e q. walk-turn d body (set starts n at) links c f slot last i false true (lt-leb next last e) (rw (getD-set-other starts n (next - 1) at 0 (λ p. omega arith)) q))
+      (λ e q. walk-turn d body (set starts n at) links c f slot last i false false (lt-leb next last e) (rw (getD-set-other starts n (next - 1) at 0 (λ p. omega arith)) q) ∙ onward)
+
+entered-start : {d : Delimiters} {body : Bytes} {starts links : List ℕ} {n : ℕ}
+    → Entered d body starts links n → (at : ℕ) → Entered d body (set starts n at) links n
+unfolding search
+entered-start {d} {body} {starts} {links} {n} e at = record {
+  linked = e .linked;
+  unlinked = e .unlinked;
+  finds = λ c. rw (walk-start d body starts links n (e .linked) c at 65536 (bucketOf c) 0 0, take-set-le n starts n at (omega arith)) (e .finds c);
 }
 
--- a store past the first sets leaves their buckets
-bucket-store : (d : Delimiters) (body : Bytes) (starts : List ℕ) (b n at m : ℕ) → m ≤ n
-    → inBucket d body (set starts n at) b m ≡ inBucket d body starts b m
-unfolding inBucket
-bucket-store d body starts b n at zero h = refl
-bucket-store d body starts b n at (suc k) h =
-    rw (getD-set-other starts n k at 0 (λ e. omega arith), bucket-store d body starts b n at k (omega arith))
-
-module _ (d : Delimiters) (body : Bytes) (starts : List ℕ) (b k : ℕ) where
-  bucket-in : bucketAt d body (getD starts k 0) ≡ b → inBucket d body starts b (suc k) ≡ k ∷ inBucket d body starts b k
-  unfolding inBucket
-  bucket-in e = rw (eq-eqb (bucketAt d body (getD starts k 0)) b e)
-
-  bucket-out : eqb (bucketAt d body (getD starts k 0)) b ≡ false → inBucket d body starts b (suc k) ≡ inBucket d body starts b k
-  unfolding inBucket
-  bucket-out e = rw e
-
-module _ {d : Delimiters} {body : Bytes} {starts heads links : List ℕ} {n : ℕ} (e : Entered d body starts heads links n)
-    (inStarts : n < length starts) (inLinks : n < length links) (size : length heads ≡ 1024) (at : ℕ) where
-  head-here : getD (set heads (bucketAt d body at) (n + 1)) (bucketAt d body at) 0 ≡ n + 1
-  head-here = getD-set-same heads (bucketAt d body at) (n + 1) 0 (omega (arith, bucket-below (controlAt d body at)))
-
-  head-other : (b : ℕ) → eqb (bucketAt d body at) b ≡ false → getD (set heads (bucketAt d body at) (n + 1)) b 0 ≡ getD heads b 0
-  head-other b h = getD-set-other heads (bucketAt d body at) b (n + 1) 0 (λ p. eqb-false (bucketAt d body at) b h (sym p))
-
-  start-here : bucketAt d body (getD (set starts n at) n 0) ≡ bucketAt d body at
-  start-here = ap (bucketAt d body) (getD-set-same starts n at 0 inStarts)
-
-  below-next : (q : Bool) (b : ℕ) → eqb (bucketAt d body at) b ≡ q → getD (set heads (bucketAt d body at) (n + 1)) b 0 ≤ n + 1
-  below-next true b h = rw (← eqb-true (bucketAt d body at) b h) (omega (arith, head-here))
-  below-next false b h = omega (arith, head-other b h, e .below b)
-
-  -- the set leads to the chain that its bucket had
-  chain-here : reached (set links n (getD heads (bucketAt d body at) 0)) (suc n) ≡ n ∷ inBucket d body starts (bucketAt d body at) n
-  chain-here =
-      let last = getD heads (bucketAt d body at) 0 in
-      let earlier = e .below (bucketAt d body at) in
-      rw (reached-next (set links n last) n, getD-set-same links n last 0 inLinks, min-eq-left earlier, reached-store links n last last earlier)
-      (ap (λ (ks : List ℕ). n ∷ ks) (e .chained (bucketAt d body at)))
-
-  chained-next : (q : Bool) (b : ℕ) → eqb (bucketAt d body at) b ≡ q
-      → reached (set links n (getD heads (bucketAt d body at) 0)) (getD (set heads (bucketAt d body at) (n + 1)) b 0)
-      ≡ inBucket d body (set starts n at) b (n + 1)
-  chained-next true b h =
-      let here = bucketAt d body at in
-      let stored = bucket-store d body starts here n at n (omega arith) in
-      rw (← eqb-true here b h, head-here, add-one, chain-here, bucket-in d body (set starts n at) here n start-here, stored)
-  chained-next false b h =
-      let stored = bucket-store d body starts b n at n (omega arith) in
-      rw (head-other b h, add-one, bucket-out d body (set starts n at) b n (rw start-here h), stored)
-      (reached-store links n (getD heads (bucketAt d body at) 0) (getD heads b 0) (e .below b) ∙ e .chained b)
-
-  pub entered-next : Entered d body (set starts n at) (set heads (bucketOf (controlAt d body at)) (n + 1))
-      (set links n (getD heads (bucketOf (controlAt d body at)) 0)) (n + 1)
-  entered-next = record {
-    room = simp length-set (omega arith);
-    below = λ b. below-next _ b refl;
-    chained = λ b. chained-next _ b refl;
-  }
-
+-- 3. Set n is entered at a free slot, or its number is there already.
 any-snoc : {A : Type 0} (p : A → Bool) (xs : List A) (x : A) → any p (xs ++ x ∷ []) ≡ p x || any p xs
 unfolding any
 any-snoc p [] x = refl
@@ -123,40 +89,135 @@ any-snoc p (y ∷ ys) x = rw (any-snoc p ys x) (swap (p y) (p x))
     swap true false = refl
     swap false b = refl
 
--- one more of the first sets
-all-step : (d : Delimiters) (body : Bytes) (starts : List ℕ) (c : Bytes) (k : ℕ) → k < length starts
-    → member c (controlsAt d body (take (suc k) starts)) ≡ same c (controlAt d body (getD starts k 0)) || member c (controlsAt d body (take k starts))
-unfolding controlsAt
-all-step d body starts c k h =
-    rw (take-suc starts k 0 h, map-append, any-snoc (same c) (map (controlAt d body) (take k starts)) (controlAt d body (getD starts k 0)))
+or-true : (a : Bool) → a || true ≡ true
+or-true true = refl
+or-true false = refl
 
--- a set of another bucket has another control number
-other-bucket : (c o : Bytes) → eqb (bucketOf o) (bucketOf c) ≡ false → same c o ≡ false
-other-bucket c o e = go _ refl
+or-neither : (a : Bool) → (a ≡ true → ⊥) → a || false ≡ false
+or-neither true h = absurd (h refl)
+or-neither false h = refl
+
+-- by whether two numbers are the same
+compared : {A : Type 0} (a b : ℕ) → (a ≡ b → A) → ((a ≡ b → ⊥) → A) → A
+compared {A} a b here other = go _ refl
   where
-    go : (q : Bool) → same c o ≡ q → q ≡ false
-    go true s = absurd (eqb-false (bucketOf o) (bucketOf c) e (ap bucketOf (sym (same→eq c o s))))
-    go false s = refl
+    go : (q : Bool) → eqb a b ≡ q → A
+    go true e = here (eqb-true a b e)
+    go false e = other (eqb-false a b e)
 
--- the sets with the control number c are in its bucket
-bucket-finds : (d : Delimiters) (body : Bytes) (starts : List ℕ) (c : Bytes) (n : ℕ) → n ≤ length starts
-    → member c (controlsOf d body starts (inBucket d body starts (bucketOf c) n)) ≡ member c (controlsAt d body (take n starts))
-unfolding inBucket controlsOf controlsAt any
-bucket-finds d body starts c zero h = refl
-bucket-finds d body starts c (suc k) h = rw (all-step d body starts c k h, ← bucket-finds d body starts c k (omega arith)) (go _ refl)
-  where
-    ks : List ℕ
-    ks = inBucket d body starts (bucketOf c) k
+module _ (d : Delimiters) (body : Bytes) (starts links : List ℕ) (n : ℕ) (e : Entered d body starts links n) where
+  -- the number of set n
+  abbrev numberOf : Bytes
+  numberOf = controlAt d body (getD starts n 0)
 
-    o : Bytes
-    o = controlAt d body (getD starts k 0)
+  -- one more of the first sets
+  all-next : (c : Bytes) → n < length starts
+      → member c (controlsAt d body (take (n + 1) starts)) ≡ same c numberOf || isRepeated (search d body starts links c)
+  unfolding controlsAt
+  all-next c h =
+      rw (e .finds c, add-one, take-suc starts n 0 h, map-append, any-snoc (same c) (map (controlAt d body) (take n starts)) numberOf)
 
-    go : (q : Bool) → eqb (bucketOf o) (bucketOf c) ≡ q
-        → member c (controlsOf d body starts (if q then k ∷ ks else ks)) ≡ same c o || member c (controlsOf d body starts ks)
-    go true e = refl
-    go false e = rw (other-bucket c o e)
+  -- the search for c where the link at the free slot s leads to set n; the search for its number comes to s
+  module _ (s : ℕ) (inside : s < slotOf n 0) (free : getD links s 0 ≤ ownerOf s) (room : s < length links) (c : Bytes) where
+    abbrev links′ : List ℕ
+    links′ = set links s (n + 1)
 
-pub entered-finds : {d : Delimiters} {body : Bytes} {starts heads links : List ℕ} {n : ℕ}
-    → Entered d body starts heads links n → (c : Bytes)
-    → member c (controlsOf d body starts (reached links (getD heads (bucketOf c) 0))) ≡ member c (controlsAt d body (take n starts))
-entered-finds {d} {body} {starts} {heads} {links} {n} e c = rw (e .chained (bucketOf c)) (bucket-finds d body starts c n (e .room))
+    walk-here : (f last i : ℕ) → last ≤ n → isRepeated (walk (suc f) d body starts links′ c s last i) ≡ same c numberOf
+    walk-here f last i h =
+        let bit = bit-below c i in
+        let next : getD links′ s 0 ≡ n + 1 = getD-set-same links s (n + 1) 0 room in
+        let k : getD links′ s 0 - 1 ≡ n = omega (arith, next) in
+        let none : getD links′ (slotOf n (bitAt c i)) 0 ≡ 0 =
+        getD-set-other links s (slotOf n (bitAt c i)) (n + 1) 0 (λ p. omega arith) ∙ e .unlinked (slotOf n (bitAt c i)) (omega arith) in
+        walk-cases d body starts links′ c (λ (r : Found). isRepeated r ≡ same c numberOf) f s last i
+        (λ l. absurd (omega (arith, next)))
+        (λ l q. sym (rw k at q))
+        (λ l q. rw (k, walk-ends d body starts links′ c f (slotOf n (bitAt c i)) (getD links′ s 0) (i + 1) (omega (arith, none))) (sym (rw k at q)))
+
+    walk-link : (f slot last i : ℕ) → last ≤ n → n < f + last → last ≡ ownerOf slot
+        → (same c numberOf ≡ true → walk f d body starts links c slot last i ≡ Free s)
+        → isRepeated (walk f d body starts links′ c slot last i) ≡ same c numberOf || isRepeated (walk f d body starts links c slot last i)
+    walk-link zero slot last i h k o = absurd (omega arith)
+    walk-link (suc f) slot last i h k o =
+        let next = getD links slot 0 in
+        let most = e .linked slot in
+        let bit = bit-below c i in
+        compared slot s
+        (λ here at-s. rw (here, walk-here f last i h, walk-ends d body starts links c (suc f) s last i (omega arith)) (sym (or-false (same c numberOf))))
+        (λ other.
+        let link : getD links′ slot 0 ≡ next = getD-set-other links s slot (n + 1) 0 other in
+        walk-cases d body starts links c
+        (λ (r : Found). (same c numberOf ≡ true → r ≡ Free s) → isRepeated (walk (suc f) d body starts links′ c slot last i) ≡ same c numberOf || isRepeated r)
+        f slot last i
+        (λ l at-s.
+        rw (walk-ends d body starts links′ c (suc f) slot last i (omega arith)) (sym (or-neither (same c numberOf) (λ q. other (ap slotIn (at-s q))))))
+        (λ l q at-s.
+        rw (walk-turn d body starts links′ c f slot last i false true (rw link (lt-leb next last l)) (rw link q)) (sym (or-true (same c numberOf))))
+        (λ l q at-s.
+        rw (walk-turn d body starts links′ c f slot last i false false (rw link (lt-leb next last l)) (rw link q), link)
+        (walk-link f (slotOf (next - 1) (bitAt c i)) next (i + 1) most (omega arith) (owner-next next (bitAt c i) (omega arith) bit) at-s)))
+
+  module _ (few : n < 65536) (inStarts : n < length starts) (inLinks : slotOf n 0 ≤ length links) where
+    free-inside : {s : ℕ} → search d body starts links numberOf ≡ Free s → s < length links
+    free-inside {s} p = let f = search-free d body starts links n (e .linked) numberOf s few p in omega (arith, f .0)
+
+    entered-by : (r : Found) → r ≡ search d body starts links numberOf → Entered d body starts (linkedBy r n links) (n + 1)
+    unfolding search
+    entered-by Repeated p = record {
+      linked = λ t. omega (arith, e .linked t);
+      unlinked = λ t h. e .unlinked t (omega arith);
+      finds = λ c. rw (all-next c inStarts) (again c _ refl);
+    }
+      where
+        again : (c : Bytes) (q : Bool) → same c numberOf ≡ q → isRepeated (search d body starts links c) ≡ q || isRepeated (search d body starts links c)
+        again c true g = rw (same→eq c numberOf g, ← p)
+        again c false g = refl
+    entered-by (Free s) p = record {
+      linked = λ t. compared t s (λ h. rw h (omega (arith, here))) (λ h. omega (arith, other t h, e .linked t));
+      unlinked = λ t h. other t (λ q. omega (arith, f .0)) ∙ e .unlinked t (omega arith);
+      finds = λ c.
+          rw (all-next c inStarts)
+          (walk-link s (f .0) (f .1) room c 65536 (bucketOf c) 0 0 (omega arith) (omega arith) (omega (arith, bucket-below c)) (λ q. rw (same→eq c numberOf q) (sym p)));
+    }
+      where
+        f : (s < slotOf n 0) × (getD links s 0 ≤ ownerOf s)
+        f = search-free d body starts links n (e .linked) numberOf s few (sym p)
+
+        room : s < length links
+        room = free-inside (sym p)
+
+        here : getD (set links s (n + 1)) s 0 ≡ n + 1
+        here = getD-set-same links s (n + 1) 0 room
+
+        other : (t : ℕ) → (t ≡ s → ⊥) → getD (set links s (n + 1)) t 0 ≡ getD links t 0
+        other t h = getD-set-other links s t (n + 1) 0 h
+
+-- 4. What a caller needs: no set is entered; the next one is.
+pub entered-none : (d : Delimiters) (body : Bytes) (starts links : List ℕ) → ((s : ℕ) → getD links s 0 ≡ 0) → Entered d body starts links 0
+unfolding search controlsAt any
+entered-none d body starts links h = record {
+  linked = λ s. omega (arith, h s);
+  unlinked = λ s l. h s;
+  finds = λ c. rw (walk-ends d body starts links c 65536 (bucketOf c) 0 0 (omega (arith, h (bucketOf c))));
+}
+
+module _ {d : Delimiters} {body : Bytes} {starts links : List ℕ} {n : ℕ} (e : Entered d body starts links n)
+    (few : n < 65536) (inStarts : n < length starts) (inLinks : slotOf n 0 ≤ length links)
+    (at : ℕ) (r : Found) (p : r ≡ search d body (set starts n at) links (controlAt d body at)) where
+  started : Entered d body (set starts n at) links n
+  started = entered-start e at
+
+  stored : n < length (set starts n at)
+  stored = rw length-set inStarts
+
+  found : r ≡ search d body (set starts n at) links (controlAt d body (getD (set starts n at) n 0))
+  found = rw (getD-set-same starts n at 0 inStarts) p
+
+  pub entered-finds : isRepeated r ≡ member (controlAt d body at) (controlsAt d body (take n starts))
+  entered-finds = rw (p, ← take-set-le n starts n at (omega arith)) (started .finds (controlAt d body at))
+
+  pub entered-inside : {s : ℕ} → r ≡ Free s → s < length links
+  entered-inside q = free-inside d body (set starts n at) links n started few stored inLinks (sym found ∙ q)
+
+  pub entered-next : Entered d body (set starts n at) (linkedBy r n links) (n + 1)
+  entered-next = entered-by d body (set starts n at) links n started few stored inLinks r found

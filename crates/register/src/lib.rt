@@ -1,71 +1,89 @@
-// The control numbers of a group's sets in buckets, so that a number used twice is looked for among few.
+// The control numbers of a group's sets in buckets, each a tree, so that a number used twice is looked for among few.
 ghost use mathlib.Core.Path.{_≡_};
-ghost use Prim.Native.Nat.{min};
 ghost use lib.ListN.{getD};
-ghost use Rattle.rules.specs.Base.{member};
-ghost use Rattle.register.specs.Chains.{bucketOf, reached, controlsOf};
+ghost use Rattle.register.specs.Trees as trees;
+ghost use Rattle.register.specs.Trees.{bucketOf, bitAt};
 use rules::Delimiters;
 
+// The links of the buckets come first, then two for each set. A link is one past the number of the set that it leads to, 0 for none.
 pub const BUCKETS: usize = 1024;
 
+// What a search comes to: a set has the number, or none has, and this is the slot of the link to enter it by.
+pub enum Found {
+    Repeated,
+    Free(usize),
+}
+
 // The bucket of a control number.
-pub fn bucket_of(control: &[u8]) -> usize
+fn bucket_of(control: &[u8]) -> usize
     ensures { λ r. ⌜ r ≡ bucketOf (now (control .entry)) ⌝ }
 {
     let mut n: u32 = 0;
     let mut i = 0;
     while i < control.len() {
-        n = (n * 33 + control[i] as u32) % 1024;
+        n = (n * 10 + control[i] as u32) % 1024;
         i += 1;
     }
     n as usize
 }
 
-// Whether one of the sets that the links lead to from set `last - 1` on has the ST02 `control`; none for 0.
-pub fn is_repeated(
-    body: &[u8],
-    d: Delimiters,
-    starts: &[u32],
-    links: &[u16],
-    last: usize,
-    control: &[u8],
-) -> bool
-    ensures { λ r. ⌜ r ≡ member (now (control .entry)) (controlsOf d (now (body .entry)) (now (starts .entry)) (reached (now (links .entry)) last)) ⌝ }
+// Looks for a set with the ST02 `control`, in the tree of its bucket: from each set its next bit leads to one of two after it.
+pub fn search(body: &[u8], d: Delimiters, starts: &[u16], links: &[u16], control: &[u8]) -> Found
+    ensures { λ r. ⌜ r ≡ trees.search d (now (body .entry)) (now (starts .entry)) (now (links .entry)) (now (control .entry)) ⌝ }
 {
-    let mut found = false;
-    let mut next = last;
-    'sets: while 0 < next {
-        let k = next - 1;
-        next = link_at(links, k);
+    let mut found = Found::Repeated;
+    let mut slot = bucket_of(control);
+    let mut last = 0;
+    let mut i = 0;
+    'sets: loop {
+        let link = link_at(links, slot);
+        if link <= last {
+            found = Found::Free(slot);
+            break 'sets;
+        }
+        let k = link - 1;
         let earlier = sets::control_at(body, d, start_at(starts, k));
+        slot = BUCKETS + 2 * k + bit_at(control, i);
+        last = link;
+        i += 1;
         if earlier.len() != control.len() {
             continue 'sets;
         }
-        let mut i = 0;
-        while i < control.len() {
-            if control[i] != earlier[i] {
+        let mut j = 0;
+        while j < control.len() {
+            if control[j] != earlier[j] {
                 continue 'sets;
             }
-            i += 1;
+            j += 1;
         }
-        found = true;
         break 'sets;
     }
     found
 }
 
-// The set before k that its link leads to, one past it; 0 for none.
-fn link_at(links: &[u16], k: usize) -> usize
-    ensures { λ r. ⌜ r ≡ min (getD (now (links .entry)) k 0) k ⌝ }
+// Bit i of a control number, from the lowest of its first byte on; 0 past the end.
+fn bit_at(control: &[u8], i: usize) -> usize
+    ensures { λ r. ⌜ r ≡ bitAt (now (control .entry)) i ⌝ }
 {
-    if k < links.len() {
-        let link = links[k] as usize;
-        return if link < k { link } else { k };
+    let at = i / 8;
+    if at < control.len() {
+        return (control[at] as usize >> (i % 8)) % 2;
     }
     0
 }
 
-fn start_at(starts: &[u32], k: usize) -> usize
+// The link at a slot; 0 past the end.
+fn link_at(links: &[u16], slot: usize) -> usize
+    ensures { λ r. ⌜ r ≡ getD (now (links .entry)) slot 0 ⌝ }
+{
+    if slot < links.len() {
+        return links[slot] as usize;
+    }
+    0
+}
+
+// Where set k starts; 0 past the end.
+fn start_at(starts: &[u16], k: usize) -> usize
     ensures { λ r. ⌜ r ≡ getD (now (starts .entry)) k 0 ⌝ }
 {
     if k < starts.len() {

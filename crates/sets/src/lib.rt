@@ -1,7 +1,5 @@
 // The sets of a group, cut from its bytes. `body` is the segments between GS and GE; a place in it may be one past its end.
 ghost use mathlib.Core.Path.{_≡_};
-ghost use Prim.Native.Nat.{_-_};
-ghost use lib.ListN.{take, drop};
 ghost use Rattle.rules.specs.Cutting as cutting;
 ghost use Rattle.rules.specs.Refusals.{goodST};
 ghost use Rattle.sets.specs.Places.{closedAt, unclosedAt, setAt, controlAt};
@@ -73,22 +71,6 @@ pub fn next_set(body: &[u8], d: Delimiters, at: usize) -> SetAt
     SetAt::without_trailer(header, segments, next)
 }
 
-// The bytes from `from` up to `to`, those that there are.
-pub fn part(body: &[u8], from: usize, to: usize) -> &[u8]
-    ensures { λ r. ⌜ now r ≡ take (to - from) (drop from (now (body .entry))) ⌝ }
-{
-    if body.len() <= from {
-        return &body[0..0];
-    }
-    if to <= from {
-        return &body[0..0];
-    }
-    if body.len() <= to {
-        return &body[from..];
-    }
-    &body[from..to]
-}
-
 // ST01 is three digits, and ST02 is 4 to 9 valid bytes.
 fn is_good_header(header: &[u8], d: Delimiters) -> bool
     ensures { λ r. ⌜ r ≡ goodST d (cutting.split (d .element) (now (header .entry))) ⌝ }
@@ -108,7 +90,7 @@ pub fn set_refusal(body: &[u8], d: Delimiters) -> u8
     let mut at = 0;
     while at < body.len() {
         let set = next_set(body, d, at);
-        let header = part(body, at, set.header);
+        let header = text::part(body, at, set.header);
         if !segments::is_named(header, d.element, &rules::ST) {
             return 11;
         }
@@ -125,5 +107,5 @@ pub fn control_at(body: &[u8], d: Delimiters, at: usize) -> &[u8]
     ensures { λ r. ⌜ now r ≡ controlAt d (now (body .entry)) at ⌝ }
 {
     let end = text::find(body, at, d.terminator);
-    segments::field(part(body, at, end), d.element, 2)
+    segments::field(text::part(body, at, end), d.element, 2)
 }

@@ -3,7 +3,7 @@ use Prim.Native.Nat.{ℕ, zero, suc, _+_, _%_, _<_, _≤_, suc-le-suc}
 use mathlib.Core.Path.{_≡_, refl, sym, ap, _∙_}
 use mathlib.Core.Bool.{Bool, true, false, _||_, not}
 use mathlib.Core.List.{List, [], _∷_}
-use native.Mathlib.Nat.{add-zero, mod-eq-of-lt}
+use native.Mathlib.Nat.{mod-eq-of-lt}
 use native.Mathlib.Numerals.{add-one}
 use native.Mathlib.Omega.{arith}
 use borrow.Author.Tests.{ne-eqb, eqb-true, ltb-true, ltb-false}
@@ -13,23 +13,9 @@ use lib.Seq.{drop-cons, getD-drop, getD-take}
 use Rattle.rules.specs.Base.{Bytes, same, null, all, any, member}
 use Rattle.rules.specs.Tables.{isRow, filled, codesIn, rowsIn, notesIn, entriesIn}
 use Rattle.rules.proofs.Logic.{and-left, and-right, all-at}
-use Rattle.tables.specs.Reading.{Guide, isByte, entryAt, rowAt, noteAt, codesAt, indexWhere, nextWhere, idIn, idAt, idBytes, idsAreBytes}
+use Rattle.tables.specs.Reading.{Guide, isByte, entryAt, rowAt, noteAt, codesAt, idIn, idAt, idBytes, idsAreBytes}
 
--- 1. A search.
-module _ {A : Type 0} (p : A → Bool) (xs : List A) (d : A) (k : ℕ) where
-  pub next-here : k < length xs → p (getD xs k d) ≡ true → nextWhere p xs k ≡ k
-  unfolding indexWhere
-  next-here h e = rw (drop-cons xs k d h, e, add-zero)
-
-  pub next-later : k < length xs → p (getD xs k d) ≡ false → nextWhere p xs k ≡ nextWhere p xs (k + 1)
-  unfolding indexWhere
-  next-later h e = rw (add-one, drop-cons xs k d h, e) (omega arith)
-
-  pub next-none : length xs ≤ k → nextWhere p xs k ≡ k
-  unfolding indexWhere
-  next-none h = rw (drop-of-length-le xs {i = k} h, add-zero)
-
--- 2. What is left from row k on.
+-- 1. What is left from row k on.
 -- a row that is something stands before the end
 pub row-within : (what : ℕ) → 0 < what → (rows : Guide) (k : ℕ) → isRow what (getD rows k []) ≡ true → k < length rows
 row-within what w [] zero e = let z : 0 ≡ what = eqb-true 0 what e in omega arith
@@ -137,7 +123,7 @@ module _ (rows : Guide) (k : ℕ) where
       go true e = rw (codes-here e)
       go false e = rw (codes-stop e)
 
--- 3. An id by value.
+-- 2. An id by value.
 byte-at : (xs : List ℕ) (i : ℕ) → all isByte xs ≡ true → getD xs i 0 < 256
 unfolding all
 byte-at [] zero e = lit< tt

@@ -1,6 +1,6 @@
 -- The searches of a guide, and what they say of its entries: where an id is reached, and which entries are passed over.
-use Prim.Native.Nat.{ℕ, zero, suc, _+_, _-_, _<_, _≤_, suc-le-suc}
-use mathlib.Core.Path.{_≡_, refl, sym, ap, _∙_}
+use Prim.Native.Nat.{ℕ, zero, suc, _+_, _-_, _<_, _≤_}
+use mathlib.Core.Path.{_≡_, refl, sym, _∙_}
 use mathlib.Core.Bool.{Bool, true, false, _&&_}
 use mathlib.Core.List.{List, [], _∷_}
 use native.Mathlib.Nat.{not-suc-le-zero, le-of-suc-le-suc, zero-add, suc-add}
@@ -13,67 +13,17 @@ use Rattle.rules.specs.Base.{Bytes, same, keep, if_then_else_}
 use Rattle.rules.specs.Tables.{Entry, column, isRow, filled, entriesIn, entryIs}
 use Rattle.rules.proofs.Logic.{and-left, and-right}
 use Rattle.rules.specs.Segments.{reach, over}
-use Rattle.tables.proofs.Laws.{entries-here, entries-end, next-here, next-later, next-none}
-use Rattle.tables.specs.Reading.{Guide, entryAt, indexWhere, nextWhere, idIn, isEntryRow, isMandatoryRow, nextEntry, reachFrom, nextMandatory, nextInOrder}
-
--- 1. A search over a list.
-module _ {A : Type 0} (p : A → Bool) where
-  index-yes : (x : A) (xs : List A) → p x ≡ true → indexWhere p (x ∷ xs) ≡ 0
-  unfolding indexWhere
-  index-yes x xs e = rw e
-
-  index-no : (x : A) (xs : List A) → p x ≡ false → indexWhere p (x ∷ xs) ≡ suc (indexWhere p xs)
-  unfolding indexWhere
-  index-no x xs e = rw e
-
-  index-le : (xs : List A) → indexWhere p xs ≤ length xs
-  unfolding indexWhere
-  index-le [] = omega arith
-  index-le (x ∷ xs) = go (p x) (index-le xs)
-    where
-      go : (b : Bool) → indexWhere p xs ≤ length xs → (if b then 0 else suc (indexWhere p xs)) ≤ suc (length xs)
-      go true h = omega arith
-      go false h = suc-le-suc h
-
-  index-passes : (xs : List A) (d : A) → indexWhere p xs < length xs → p (getD xs (indexWhere p xs) d) ≡ true
-  index-passes [] d h = absurd (not-suc-le-zero h)
-  index-passes (x ∷ xs) d h = go (p x) refl (index-passes xs d)
-    where
-      go : (b : Bool) → p x ≡ b → (indexWhere p xs < length xs → p (getD xs (indexWhere p xs) d) ≡ true)
-          → p (getD (x ∷ xs) (indexWhere p (x ∷ xs)) d) ≡ true
-      go true e f = rw (index-yes x xs e) e
-      go false e f = rw (index-no x xs e) (f (le-of-suc-le-suc (rw (index-no x xs e) at h)))
-
-  index-again : (xs : List A) (i : ℕ) → i ≤ indexWhere p xs → i + indexWhere p (drop i xs) ≡ indexWhere p xs
-  index-again xs zero h = zero-add (indexWhere p xs)
-  index-again [] (suc i) h = absurd (omega (arith, index-le []))
-  index-again (x ∷ xs) (suc i) h = go (p x) refl (index-again xs i)
-    where
-      go : (b : Bool) → p x ≡ b → (i ≤ indexWhere p xs → i + indexWhere p (drop i xs) ≡ indexWhere p xs)
-          → suc i + indexWhere p (drop i xs) ≡ indexWhere p (x ∷ xs)
-      go true e f = absurd (not-suc-le-zero (rw (index-yes x xs e) at h))
-      go false e f = rw (index-no x xs e, suc-add) (ap suc (f (le-of-suc-le-suc (rw (index-no x xs e) at h))))
-
-  -- from k on: not past the end, and what is found passes
-  pub next-within : (xs : List A) (k : ℕ) → k ≤ length xs → nextWhere p xs k ≤ length xs
-  next-within xs k h = omega (arith, index-le (drop k xs), length-drop k xs)
-
-  pub next-passes : (xs : List A) (k : ℕ) (d : A) → nextWhere p xs k < length xs → p (getD xs (nextWhere p xs k) d) ≡ true
-  next-passes xs k d h = rw (← getD-drop) (index-passes (drop k xs) d (omega (arith, length-drop k xs)))
+use Rattle.text.specs.Text.{indexWhere}
+use Rattle.text.proofs.Where.{next-here, next-later, next-none, index-yes, index-no, index-le, next-within, next-passes, next-again}
+use Rattle.tables.proofs.Laws.{entries-here, entries-end}
+use Rattle.tables.specs.Reading.{Guide, entryAt, idIn, isEntryRow, isMandatoryRow, nextEntry, reachFrom, nextMandatory, nextInOrder}
 
 drop-take : {A : Type 0} (j n : ℕ) (xs : List A) → drop j (take (j + n) xs) ≡ take n (drop j xs)
 drop-take zero n xs = rw zero-add
 drop-take (suc j) n [] = rw (take-nil (suc j + n)) (sym (take-nil n))
 drop-take (suc j) n (x ∷ xs) = rw suc-add (drop-take j n xs)
 
--- a search that starts again before what it found finds the same
-pub next-again : {A : Type 0} (p : A → Bool) (xs : List A) (k j : ℕ) → k ≤ j → j ≤ nextWhere p xs k → nextWhere p xs j ≡ nextWhere p xs k
-next-again p xs k j h g =
-    let e : k + (j - k) ≡ j = omega arith in
-    let d : drop (j - k) (drop k xs) ≡ drop j xs = rw (drop-drop, e) in
-    omega (arith, rw d at (index-again p (drop k xs) (j - k) (omega arith)))
-
--- 2. In a list of rows: the entry with an id, and the mandatory entries before it.
+-- 1. In a list of rows: the entry with an id, and the mandatory entries before it.
 abbrev entriesFrom : Guide → ℕ → List Entry
 entriesFrom rows n = entryIs (getD rows n []) (drop (suc n) rows) ∷ entriesIn (drop (suc n) rows)
 
@@ -195,7 +145,7 @@ no-entry (r ∷ rows) h = go (isRow 1 r) refl (no-entry rows)
     go true e f = absurd (not-suc-le-zero (rw (index-yes (isRow 1) r rows e) at h))
     go false e f = entry-skip r rows e ∙ f (le-of-suc-le-suc (rw (index-no (isRow 1) r rows e) at h))
 
--- 3. The same at a cursor.
+-- 2. The same at a cursor.
 after : (rows : Guide) (k n : ℕ) → drop (suc n) (drop k rows) ≡ drop (k + n + 1) rows
 after rows k n = let q : k + n + 1 ≡ k + suc n = omega arith in rw (drop-drop, q)
 
@@ -261,7 +211,7 @@ module _ (rows : Guide) (k r : ℕ) (q : r ≡ nextEntry rows k) where
   unfolding nextEntry
   entries-none h = no-entry (drop k rows) (omega (arith, length-drop k rows))
 
--- 4. The next segment in order: row k is it, is a mandatory one before it, or is passed by.
+-- 3. The next segment in order: row k is it, is a mandatory one before it, or is passed by.
 module _ (rows : Guide) (k : ℕ) (id : Bytes) where
   abbrev row : List ℕ
   row = getD rows k []

@@ -1,5 +1,5 @@
 -- Reading a guide, a table as rows of six numbers, at a cursor: k is the index of a row.
-use Prim.Native.Nat.{ℕ, suc, _+_, _%_, _≤_}
+use Prim.Native.Nat.{ℕ, _+_, _%_, _≤_}
 use mathlib.Core.Path.{_≡_}
 use mathlib.Core.Bool.{Bool, true, _&&_, _||_, not}
 use mathlib.Core.List.{List, [], _∷_}
@@ -7,6 +7,7 @@ use lib.Dec.{eqb, ltb}
 use lib.ListN.{length, getD, take, drop}
 use Rattle.rules.specs.Base.{Bytes, same, all, if_then_else_}
 use Rattle.rules.specs.Tables.{Row, Syntax, Entry, column, isRow, filled, relationOf, codesIn, rowIs, entryIs}
+use Rattle.text.specs.Text.{nextWhere}
 use Rattle.tables.specs.declared.SegmentId.{SegmentId}
 
 abbrev pub Guide : Type 0
@@ -30,15 +31,6 @@ noteAt rows k = record { relation = relationOf (column (getD rows k []) 1); plac
 
 abbrev pub codesAt : Guide → ℕ → List Bytes
 codesAt rows k = codesIn (drop k rows)
-
--- how many come before the first that passes; all where none does
-unfoldable pub indexWhere {ℓ} : {A : Type ℓ} → (A → Bool) → List A → ℕ
-indexWhere p [] = 0
-indexWhere p (x ∷ xs) = let r = indexWhere p xs in if p x then 0 else suc r
-
--- the index of the first from k on that passes; the length where there is none, and k where that is past the end
-abbrev pub nextWhere {ℓ} : {A : Type ℓ} → (A → Bool) → List A → ℕ → ℕ
-nextWhere p xs k = k + indexWhere p (drop k xs)
 
 -- the three numbers of a segment row's id
 abbrev pub idIn : List ℕ → List ℕ

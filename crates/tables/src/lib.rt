@@ -6,7 +6,8 @@ ghost use Prim.Native.Nat.{_%_};
 ghost use lib.ListN.{getD, drop};
 ghost use Rattle.rules.specs.Base.{same, member, null};
 ghost use Rattle.rules.specs.Tables.{isRow, filled, kindOf, relationOf, idsIn};
-ghost use Rattle.tables.specs.Reading.{entryAt, codesAt, nextWhere, idIn, isEntryRow, isMandatoryRow, nextEntry, reachFrom, nextMandatory, nextInOrder, idAt};
+ghost use Rattle.text.specs.Text.{nextWhere};
+ghost use Rattle.tables.specs.Reading.{entryAt, codesAt, idIn, isEntryRow, isMandatoryRow, nextEntry, reachFrom, nextMandatory, nextInOrder, idAt};
 use rules::Kind;
 use rules::Relation;
 

@@ -1,4 +1,5 @@
 pub mod Loops
 pub mod Search
+pub mod Where
 pub mod Digits
 pub mod Times

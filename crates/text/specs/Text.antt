@@ -1,14 +1,31 @@
 -- What the leaves on bytes answer where document 01 has no definition of it.
-use Prim.Native.Nat.{ℕ, suc}
-use mathlib.Core.List.{[], _∷_}
+use Prim.Native.Nat.{ℕ, suc, _+_}
+use mathlib.Core.Bool.{Bool, not}
+use mathlib.Core.List.{List, [], _∷_}
 use lib.Dec.{eqb}
+use lib.ListN.{drop}
 use Rattle.rules.specs.Base.{Bytes, if_then_else_}
+use Rattle.rules.specs.Cutting.{valid}
 use Rattle.rules.specs.Numbers.{digits, value}
+use Rattle.rules.specs.declared.Delimiters.{Delimiters}
 
 -- the place of the first b, the length where there is none
 unfoldable pub indexOf : ℕ → Bytes → ℕ
 indexOf b [] = 0
 indexOf b (x ∷ xs) = let r = indexOf b xs in if eqb x b then 0 else suc r
+
+-- how many come before the first that passes; all where none does
+unfoldable pub indexWhere {ℓ} : {A : Type ℓ} → (A → Bool) → List A → ℕ
+indexWhere p [] = 0
+indexWhere p (x ∷ xs) = let r = indexWhere p xs in if p x then 0 else suc r
+
+-- the index of the first from k on that passes; the length where there is none, and k where that is past the end
+abbrev pub nextWhere {ℓ} : {A : Type ℓ} → (A → Bool) → List A → ℕ → ℕ
+nextWhere p xs k = k + indexWhere p (drop k xs)
+
+-- no valid byte
+abbrev pub invalid : Delimiters → ℕ → Bool
+invalid d b = not (valid d b)
 
 -- the value of at most ten digits, 0 for anything else
 unfoldable pub upToTen : Bytes → ℕ

@@ -1,14 +1,14 @@
 // Leaves on bytes: searching, comparing, digits and the numbers that they stand for, dates, times, valid bytes.
 ghost use mathlib.Core.Path.{_≡_};
 ghost use mathlib.Core.Bool.{_||_};
-ghost use Prim.Native.Nat.{_+_, _≤_};
+ghost use Prim.Native.Nat.{_+_, _-_, _≤_};
 ghost use lib.Dec.{eqb};
 ghost use lib.ListN.{length, take, drop};
 ghost use Rattle.rules.specs.Base.{between, isDigit, isUpper, isUpperOrDigit, same, all, any};
 ghost use Rattle.rules.specs.Cutting.{valid, text};
 ghost use Rattle.rules.specs.Numbers.{digits, isDay, isDate, isTime};
 ghost use Rattle.rules.specs.Elements as elements;
-ghost use Rattle.text.specs.Text.{indexOf, upToTen};
+ghost use Rattle.text.specs.Text.{indexOf, nextWhere, invalid, upToTen};
 use rules::Delimiters;
 
 // The place of the first b from `from` on; the length where there is none, and `from` where that is past the end.
@@ -53,6 +53,22 @@ pub fn find(s: &[u8], from: usize, b: u8) -> usize
         i += 8;
     }
     find_near(s, i, b)
+}
+
+// The bytes from `from` up to `to`, those that there are.
+pub fn part(s: &[u8], from: usize, to: usize) -> &[u8]
+    ensures { λ r. ⌜ now r ≡ take (to - from) (drop from (now (s .entry))) ⌝ }
+{
+    if s.len() <= from {
+        return &s[0..0];
+    }
+    if to <= from {
+        return &s[0..0];
+    }
+    if s.len() <= to {
+        return &s[from..];
+    }
+    &s[from..to]
 }
 
 // Byte for byte the same.
@@ -170,6 +186,20 @@ pub fn is_valid(b: u8, d: Delimiters) -> bool
     ensures { λ r. ⌜ r ≡ valid d b ⌝ }
 {
     (32 <= b) & (b <= 126) & (b != d.element) & (b != d.component) & (b != d.terminator)
+}
+
+// The place of the first byte from `from` on that is not valid; the length where there is none, and `from` where that is past the end.
+pub fn find_invalid(s: &[u8], from: usize, d: Delimiters) -> usize
+    ensures { λ r. ⌜ r ≡ nextWhere (invalid d) (now (s .entry)) from ⌝ }
+{
+    let mut i = from;
+    while i < s.len() {
+        if !is_valid(s[i], d) {
+            return i;
+        }
+        i += 1;
+    }
+    i
 }
 
 // Nothing but valid bytes. All are looked at, which takes fewer branches than to stop at the first that is not.

@@ -183,7 +183,7 @@ impl Edition {
 pub fn edition_of(gs08: &[u8]) -> Edition
     ensures { λ r. ⌜ r ≡ editionIn (take 6 (now (gs08 .entry))) ⌝ }
 {
-    let edition = first_bytes(gs08, 6);
+    let edition = text::part(gs08, 0, 6);
     if same_bytes(edition, &EDITION_006010) {
         return Edition::E006010;
     }
@@ -191,16 +191,6 @@ pub fn edition_of(gs08: &[u8]) -> Edition
         return Edition::E004010;
     }
     Edition::Other
-}
-
-// The first n bytes, or all where there are fewer.
-fn first_bytes(s: &[u8], n: usize) -> &[u8]
-    ensures { λ r. ⌜ now r ≡ take n (now (s .entry)) ⌝ }
-{
-    if s.len() <= n {
-        return s;
-    }
-    &s[0..n]
 }
 
 // GS01 is supported.

@@ -15,12 +15,26 @@ returns c = rw (not-true (c .before .before .before .args .supported) (c .if1 .t
 returns-2 : tie.Need-returns-2
 returns-2 c =
     let notes = c .before .before .before in
-    let at = notes .before .before in
-    rw (not-false (at .before .before .before .before .args .supported) (at .before .if1 .left))
+    let rows = notes .before .before .before in
+    let at = rows .before in
+    rw (not-false (at .before .before .before .before .args .supported) (at .before .if1 .left), ← rows .directory .ensures)
     (record {
       text = lend (at .clipped .ensures) (notes .put-notes .ensures .text) (c .joined .ensures) (omega arith);
       number = notes .put-notes .ensures .number;
     })
 
 pub add-notes-spec : {M : Type 1} → statement M
-add-notes-spec = tie.close (tie.spec returns (λ c κs. search needs) (λ c. search needs) (λ c. search needs) (λ c. search needs) (λ c κs. search needs) (λ c κs. search needs) (λ c. search needs) returns-2)
+add-notes-spec =
+    tie.close
+    (tie.spec
+    returns
+    (λ c κs. search needs)
+    (λ c κs. search needs)
+    (λ c. search needs)
+    (λ c. search needs)
+    (λ c. search needs)
+    (λ c. search needs)
+    (λ c κs. search needs)
+    (λ c κs. search needs)
+    (λ c. search needs)
+    returns-2)

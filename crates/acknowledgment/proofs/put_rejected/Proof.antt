@@ -1,6 +1,4 @@
 -- `acknowledgment::put_rejected` meets its contract: the parts of the set at its place, and what is written of them.
-use mathlib.Core.Path.{_∙_}
-use mathlib.Core.Logic.{⊎-elim}
 use native.Mathlib.Nat.{sub-zero}
 use Rattle.verdicts.proofs.Collected.{Held, collected-held}
 use Rattle.acknowledgment.proofs.Blocks.{parts-at, block-of}
@@ -25,7 +23,7 @@ returns c =
     let notes = codes .before .before .before .before in
     let ak2 = notes .before .before .before .before in
     let test = ak2 .before .before in
-    let trailer = test .before in
+    let trailer = test .before .before in
     let header = trailer .before .before in
     let set = header .before in
     let place = set .before in
@@ -35,11 +33,10 @@ returns c =
     rw (← at-place)
     (block-of
     (parts-at (rw (← at-place) at (entry .pre .0)) (omega (arith, entry .good .1 .0)) (set .part .ensures) (header .part2 .ensures) (trailer .part3 .ensures))
-    _
     (entry .pre .1)
     (entry .args .known)
     earlier
-    (⊎-elim (λ w. rw (w .0 .taken, ← w .1 .ensures) (w .3 ∙ w .2 .ensures)) (λ w. rw (w .0 .left) (w .1 ∙ w .0 .left)) (test .if1 .came))
+    (rw (test .is-load-response .ensures, test .before .field .ensures))
     (ak2 .add-ak2 .ensures)
     (notes .add-notes .ensures)
     (codes .set-codes .ensures)

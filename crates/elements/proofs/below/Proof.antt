@@ -16,7 +16,7 @@ returns c = search needs
 returns-2 : tie.Need-returns-2
 returns-2 c =
     let a = c .before .args in
-    drop-of-length-le (a .guide .now) {i = a .entry} (omega arith) ∙ sym (drop-of-length-le (a .guide .now) {i = a .entry + 1} (omega arith))
+    drop-of-length-le (a .guide .now) {i = a .k} (omega arith) ∙ sym (drop-of-length-le (a .guide .now) {i = a .k + 1} (omega arith))
 
 pub below-spec : {M : Type 1} → statement M
 below-spec = tie.close (tie.spec add-result returns returns-2)

@@ -22,8 +22,8 @@ Inv-loop i k₀ k = framed i ≡ all (separated i) (drop k separators)
 abbrev μ-loop : tie.MeasureT-loop
 μ-loop i k₀ k = 16 - k
 
-up-to-requires : tie.Need-up-to-requires Inv-loop μ-loop
-up-to-requires c κs = search needs
+part-requires : tie.Need-part-requires Inv-loop μ-loop
+part-requires c κs = search needs
 
 slice-aggregate-same-bytes : tie.Need-slice-aggregate-same-bytes Inv-loop μ-loop
 slice-aggregate-same-bytes c = search needs
@@ -33,11 +33,11 @@ same-bytes-requires c κs = search needs
 
 returns : tie.Need-returns Inv-loop μ-loop
 unfolding framed
-returns c = rw (← c .before .before .before .up-to .ensures, sym (c .before .same-bytes .ensures) ∙ not-true _ (c .if1 .taken))
+returns c = rw (← c .before .before .before .part .ensures, sym (c .before .same-bytes .ensures) ∙ not-true _ (c .if1 .taken))
 
 loop-holds : tie.Need-loop-holds Inv-loop μ-loop
 unfolding framed
-loop-holds c = rw (← c .before .before .before .up-to .ensures, sym (c .before .same-bytes .ensures) ∙ not-false _ (c .if1 .left))
+loop-holds c = rw (← c .before .before .before .part .ensures, sym (c .before .same-bytes .ensures) ∙ not-false _ (c .if1 .left))
 
 separator-requires : tie.Need-separator-requires Inv-loop μ-loop
 separator-requires c κs = search needs
@@ -69,7 +69,7 @@ is-framed-spec =
     (tie.spec
     Inv-loop
     μ-loop
-    up-to-requires
+    part-requires
     slice-aggregate-same-bytes
     same-bytes-requires
     returns

@@ -4,6 +4,7 @@ use Prim.Native.Nat.{_-_}
 use mathlib.Core.Path.{sym}
 use Rattle.rules.specs.Cutting.{isa}
 use lib.ListN.{List·getD-eq-default}
+use native.Mathlib.Nat.{sub-zero}
 use Rattle.envelope.proofs.Places.{separator-low, isa-length, isa-first, isa-next}
 use native.Mathlib.Omega.{arith}
 use borrow.Author.Needs.{needs}
@@ -25,11 +26,11 @@ returns c = let i = c .before .before .before .args .i .now in sym (List·getD-e
 separator-requires : tie.Need-separator-requires
 separator-requires c κs = search needs
 
-up-to-requires : tie.Need-up-to-requires
-up-to-requires c κs = search needs
+part-requires : tie.Need-part-requires
+part-requires c κs = search needs
 
 returns-2 : tie.Need-returns-2
-returns-2 c = rw (isa-first _ _ (c .if2 .taken), ← c .before .before .separator .ensures) (c .before .up-to .ensures)
+returns-2 c = rw (isa-first _ _ (c .before .if2 .taken), ← c .before .before .separator .ensures) (rw sub-zero at (c .part .ensures))
 
 sub-separator : tie.Need-sub-separator
 sub-separator c = search needs
@@ -37,14 +38,14 @@ sub-separator c = search needs
 separator-requires-2 : tie.Need-separator-requires-2
 separator-requires-2 c κs = search needs
 
-add-from : tie.Need-add-from
-add-from c = omega (arith, separator-low (c .before .before .before .before .before .before .args .n - 1) (omega arith))
+add-part : tie.Need-add-part
+add-part c = omega (arith, separator-low (c .before .before .before .before .before .args .n - 1) (omega arith))
 
-from-requires : tie.Need-from-requires
-from-requires c κs = search needs
+part-requires-2 : tie.Need-part-requires-2
+part-requires-2 c κs = search needs
 
 returns-3 : tie.Need-returns-3
-returns-3 c = rw (isa-next _ _ (c .before .before .if2 .left) (c .before .before .before .before .before .if1 .left), ← c .before .before .before .before .separator .ensures, ← c .before .separator2 .ensures, ← c .before .before .before .up-to .ensures) (c .from .ensures)
+returns-3 c = rw (isa-next _ _ (c .before .before .if2 .left) (c .before .before .before .before .if1 .left), ← c .before .before .before .separator .ensures, ← c .before .separator2 .ensures) (c .part2 .ensures)
 
 pub isa-field-spec : {M : Type 1} → statement M
 isa-field-spec =
@@ -55,10 +56,10 @@ isa-field-spec =
     part-result-end
     returns
     separator-requires
-    up-to-requires
+    part-requires
     returns-2
     sub-separator
     separator-requires-2
-    add-from
-    from-requires
+    add-part
+    part-requires-2
     returns-3)

@@ -8,8 +8,8 @@ use Rattle.findings.proofs.element.Tie as tie
 part-requires : tie.Need-part-requires
 part-requires c κs = search needs
 
-code-at-requires : tie.Need-code-at-requires
-code-at-requires c κs = search needs
+next-code-requires : tie.Need-next-code-requires
+next-code-requires c κs = search needs
 
 next-place-requires : tie.Need-next-place-requires
 next-place-requires c κs = search needs
@@ -18,8 +18,8 @@ to-requires : tie.Need-to-requires
 to-requires c κs = search needs
 
 returns : tie.Need-returns
-unfolding steps.codeAt
-returns c = rw (← c .before .before .before .before .part .ensures, ← c .before .before .before .code-at .ensures, eq-eqb _ _ (c .if1 .taken), c .before .to .ensures, c .before .before .next-place .ensures)
+unfolding steps.elementStep
+returns c = rw (← c .before .before .before .before .before .part .ensures, ← c .before .before .before .before .next-code .ensures, eq-eqb _ _ (c .if1 .taken), c .before .before .to .ensures, c .before .before .before .next-place .ensures)
 
 number-requires : tie.Need-number-requires
 number-requires c κs = search needs
@@ -28,15 +28,15 @@ new-requires : tie.Need-new-requires
 new-requires c κs = search needs
 
 returns-2 : tie.Need-returns-2
-unfolding steps.codeAt
-returns-2 c = rw (← c .before .before .before .before .before .before .part .ensures, ← c .before .before .before .before .before .code-at .ensures, ne-eqb _ _ (c .before .before .if1 .left), c .new .ensures, c .before .number .ensures, c .before .before .before .to .ensures, c .before .before .before .before .next-place .ensures)
+unfolding steps.elementStep
+returns-2 c = rw (← c .before .before .before .before .before .before .before .part .ensures, ← c .before .before .before .before .before .before .next-code .ensures, ne-eqb _ _ (c .before .before .if1 .left), c .new .ensures, c .before .number .ensures, c .before .before .before .before .to .ensures, c .before .before .before .before .before .next-place .ensures)
 
 pub element-spec : {M : Type 1} → statement M
 element-spec =
     tie.close
     (tie.spec
     part-requires
-    code-at-requires
+    next-code-requires
     next-place-requires
     to-requires
     returns

@@ -5,8 +5,8 @@ use native.Mathlib.Nat.{mod-lt}
 use native.Mathlib.Omega.{arith}
 use borrow.Author.Needs.{needs}
 use lib.ListN.{length, drop}
-use Rattle.register.specs.Chains.{bucketFrom, bucketOf}
-use Rattle.register.proofs.Chains.{bucket-step, bucket-end}
+use Rattle.register.specs.Trees.{bucketFrom, bucketOf}
+use Rattle.register.proofs.Trees.{bucket-step, bucket-end}
 use Rattle.register.proofs.bucket_of.Statement.{statement}
 use Rattle.register.proofs.bucket_of.Tie as tie
 

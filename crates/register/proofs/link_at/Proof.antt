@@ -1,28 +1,26 @@
 -- `register::link_at` meets its contract.
+use mathlib.Core.Path.{sym}
 use lib.ListN.{List·getD-eq-default}
 use native.Mathlib.Omega.{arith}
 use borrow.Author.Needs.{needs}
 use Rattle.register.proofs.link_at.Statement.{statement}
 use Rattle.register.proofs.link_at.Tie as tie
 
-mul-link : tie.Need-mul-link
-mul-link c = search needs
+mul-result : tie.Need-mul-result
+mul-result c = search needs
 
-shared-slice-read-link : tie.Need-shared-slice-read-link
-shared-slice-read-link c = search needs
+shared-slice-read-result : tie.Need-shared-slice-read-result
+shared-slice-read-result c = search needs
 
-cast-link : tie.Need-cast-link
-cast-link c = omega (arith, c .shared-slice-known .given (c .before .before .args .k))
+cast-result : tie.Need-cast-result
+cast-result c = omega (arith, c .shared-slice-known .given (c .before .before .args .slot))
 
 returns : tie.Need-returns
 returns c = search needs
 
 returns-2 : tie.Need-returns-2
-returns-2 c = search needs
-
-returns-3 : tie.Need-returns-3
-returns-3 c = omega (arith, List·getD-eq-default (c .before .args .links .now) 0 (c .if1 .left))
+returns-2 c = sym (List·getD-eq-default (c .before .args .links .now) 0 (c .if1 .left))
 
 pub link-at-spec : {M : Type 1} → statement M
 link-at-spec =
-    tie.close (tie.spec mul-link shared-slice-read-link cast-link returns returns-2 returns-3)
+    tie.close (tie.spec mul-result shared-slice-read-result cast-result returns returns-2)

@@ -4,8 +4,9 @@ use Prim.Native.Nat.{_-_}
 use mathlib.Core.Path.{_≡_, sym, _∙_}
 use mathlib.Core.List.{[]}
 use lib.ListN.{length}
-use Rattle.tables.specs.Reading.{nextWhere, isMandatoryRow}
-use Rattle.tables.proofs.Laws.{next-here, next-later, next-none}
+use Rattle.text.specs.Text.{nextWhere}
+use Rattle.tables.specs.Reading.{isMandatoryRow}
+use Rattle.text.proofs.Where.{next-here, next-later, next-none}
 use Rattle.tables.proofs.mandatory_from.Statement.{statement}
 use Rattle.tables.proofs.mandatory_from.Tie as tie
 

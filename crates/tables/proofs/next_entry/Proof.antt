@@ -4,8 +4,9 @@ use mathlib.Core.Path.{_≡_, sym, _∙_}
 use mathlib.Core.List.{[]}
 use lib.ListN.{length}
 use Rattle.rules.specs.Tables.{isRow}
-use Rattle.tables.specs.Reading.{nextWhere, nextEntry}
-use Rattle.tables.proofs.Laws.{next-here, next-later, next-none}
+use Rattle.text.specs.Text.{nextWhere}
+use Rattle.tables.specs.Reading.{nextEntry}
+use Rattle.text.proofs.Where.{next-here, next-later, next-none}
 use borrow.Author.Needs.{needs}
 use Rattle.tables.proofs.next_entry.Statement.{statement}
 use Rattle.tables.proofs.next_entry.Tie as tie

@@ -1,7 +1,8 @@
 -- `tables::next_mandatory` meets its contract.
 use mathlib.Core.Path.{_∙_, sym, ap}
 use lib.Seq.{take-all, length-take-le}
-use Rattle.tables.specs.Reading.{Guide, nextWhere, isMandatoryRow, nextMandatory}
+use Rattle.text.specs.Text.{nextWhere}
+use Rattle.tables.specs.Reading.{Guide, isMandatoryRow, nextMandatory}
 use native.Mathlib.Omega.{arith}
 use borrow.Author.Needs.{needs}
 use Rattle.tables.proofs.next_mandatory.Statement.{statement}

@@ -3,8 +3,9 @@ use Prim.Native.Nat.{_-_}
 use mathlib.Core.Path.{_≡_, sym, _∙_}
 use mathlib.Core.List.{[]}
 use lib.ListN.{length}
-use Rattle.tables.specs.Reading.{nextWhere, isEntryRow, reachFrom}
-use Rattle.tables.proofs.Laws.{next-here, next-later, next-none}
+use Rattle.text.specs.Text.{nextWhere}
+use Rattle.tables.specs.Reading.{isEntryRow, reachFrom}
+use Rattle.text.proofs.Where.{next-here, next-later, next-none}
 use borrow.Author.Needs.{needs}
 use Rattle.tables.proofs.reach.Statement.{statement}
 use Rattle.tables.proofs.reach.Tie as tie

@@ -4,8 +4,8 @@ use borrow.Author.Needs.{needs}
 use Rattle.verdicts.proofs.edition_of.Statement.{statement}
 use Rattle.verdicts.proofs.edition_of.Tie as tie
 
-first-bytes-requires : tie.Need-first-bytes-requires
-first-bytes-requires c κs = search needs
+part-requires : tie.Need-part-requires
+part-requires c κs = search needs
 
 slice-aggregate-same-bytes : tie.Need-slice-aggregate-same-bytes
 slice-aggregate-same-bytes c = search needs
@@ -15,7 +15,7 @@ same-bytes-requires c κs = search needs
 
 returns : tie.Need-returns
 unfolding editionIn
-returns c = rw (← c .before .before .before .first-bytes .ensures, ← c .before .same-bytes .ensures, c .if1 .taken)
+returns c = rw (← c .before .before .before .part .ensures, ← c .before .same-bytes .ensures, c .if1 .taken)
 
 slice-aggregate-same-bytes-2 : tie.Need-slice-aggregate-same-bytes-2
 slice-aggregate-same-bytes-2 c = search needs
@@ -25,17 +25,17 @@ same-bytes-requires-2 c κs = search needs
 
 returns-2 : tie.Need-returns-2
 unfolding editionIn
-returns-2 c = rw (← c .before .before .before .before .before .before .first-bytes .ensures, ← c .before .before .before .before .same-bytes .ensures, c .before .before .before .if1 .left, ← c .before .same-bytes2 .ensures, c .if2 .taken)
+returns-2 c = rw (← c .before .before .before .before .before .before .part .ensures, ← c .before .before .before .before .same-bytes .ensures, c .before .before .before .if1 .left, ← c .before .same-bytes2 .ensures, c .if2 .taken)
 
 returns-3 : tie.Need-returns-3
 unfolding editionIn
-returns-3 c = rw (← c .before .before .before .before .before .before .first-bytes .ensures, ← c .before .before .before .before .same-bytes .ensures, c .before .before .before .if1 .left, ← c .before .same-bytes2 .ensures, c .if2 .left)
+returns-3 c = rw (← c .before .before .before .before .before .before .part .ensures, ← c .before .before .before .before .same-bytes .ensures, c .before .before .before .if1 .left, ← c .before .same-bytes2 .ensures, c .if2 .left)
 
 pub edition-of-spec : {M : Type 1} → statement M
 edition-of-spec =
     tie.close
     (tie.spec
-    first-bytes-requires
+    part-requires
     slice-aggregate-same-bytes
     same-bytes-requires
     returns

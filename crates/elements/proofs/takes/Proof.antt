@@ -1,0 +1,48 @@
+-- `elements::takes` meets its contract.
+use mathlib.Core.Path.{sym, ap, _∙_}
+use Prim.Native.Nat.{ℕ}
+use lib.Dec.{eqb}
+use Rattle.tables.specs.Reading.{rowAt}
+use Rattle.elements.proofs.Codes.{mandatory-code, takes-empty, takes-filled, takes-length}
+use borrow.Author.Needs.{needs}
+use Rattle.elements.proofs.takes.Statement.{statement}
+use Rattle.elements.proofs.takes.Tie as tie
+
+empty-code-requires : tie.Need-empty-code-requires
+empty-code-requires c κs = search needs
+
+returns : tie.Need-returns
+returns c =
+    let a = c .before .before .before .args in
+    let r = rowAt (a .guide .now) (a .k) in
+    ap (λ (n : ℕ). eqb n 0) (c .empty-code .ensures) ∙ mandatory-code (r .mandatory) ∙ sym (takes-empty r (a .e .now) (c .before .if1 .taken))
+
+takes-length-requires : tie.Need-takes-length-requires
+takes-length-requires c κs = search needs
+
+value-code-requires : tie.Need-value-code-requires
+value-code-requires c κs = search needs
+
+returns-2 : tie.Need-returns-2
+returns-2 c =
+    let a = c .before .before .before .before .args in
+    let r = rowAt (a .guide .now) (a .k) in
+    let plain = takes-length (a .guide .now) (a .k) (a .e .now) (sym (c .before .takes-length .ensures) ∙ c .if2 .taken) in
+    c .if2 .taken ∙ sym (takes-filled r (a .e .now) (c .before .before .if1 .left) ∙ rw plain)
+
+returns-3 : tie.Need-returns-3
+returns-3 c =
+    let a = c .before .before .before .before .before .args in
+    ap (λ (n : ℕ). eqb n 0) (c .value-code .ensures)
+    ∙ sym (takes-filled (rowAt (a .guide .now) (a .k)) (a .e .now) (c .before .before .before .if1 .left))
+
+pub takes-spec : {M : Type 1} → statement M
+takes-spec =
+    tie.close
+    (tie.spec
+    empty-code-requires
+    returns
+    takes-length-requires
+    value-code-requires
+    returns-2
+    returns-3)
