@@ -48,6 +48,33 @@ fn header(number: usize) -> String {
     format!("ST*990*{number:04}~")
 }
 
+/// The nth word of five letters.
+fn word(n: u32) -> String {
+    let letters = [n, n / 26, n / 676, n / 17_576, n / 456_976];
+    letters
+        .map(|n| char::from(b'A' + (n % 26) as u8))
+        .iter()
+        .collect()
+}
+
+/// The bucket that the library looks for a control number in.
+fn bucket(number: &str) -> u32 {
+    number
+        .bytes()
+        .fold(0, |n, byte| (n * 10 + u32::from(byte)) % 1024)
+}
+
+/// So many headers with different control numbers, all with this beginning and of one bucket.
+fn headers_of_one_bucket(sets: usize, beginning: &str) -> String {
+    let numbers = (0..).map(|n| format!("{beginning}{}", word(n)));
+    let group: String = numbers
+        .filter(|number| bucket(number) == 0)
+        .take(sets)
+        .map(|number| format!("ST*990*{number}~"))
+        .collect();
+    interchange(sets, &group)
+}
+
 /// One set with these bytes between header and trailer.
 fn one_set(body: &str) -> String {
     interchange(1, &format!("ST*990*0001~{body}SE*3*0001~"))
@@ -61,6 +88,14 @@ pub fn answered() -> Vec<Input> {
         input("900 faulty sets", group(900, faulty_set)),
         input("4800 headers, different numbers", group(4800, header)),
         input("4800 headers, the same number", group(4800, |_| header(1))),
+        input(
+            "4800 headers, numbers of one bucket",
+            headers_of_one_bucket(4800, ""),
+        ),
+        input(
+            "3600 headers, numbers of one bucket and beginning",
+            headers_of_one_bucket(3600, "AAAA"),
+        ),
         input("60000 empty segments", one_set(&"~".repeat(60_000))),
         input(
             "a segment of 60000 separators",

@@ -10,19 +10,25 @@ use std::time::{Duration, Instant};
 const DATE: u32 = 20240315;
 const TIME: u32 = 930;
 
-/// How long each side runs on one input.
-const DURATION: Duration = Duration::from_millis(500);
+/// How long both sides run on one input.
+const DURATION: Duration = Duration::from_secs(2);
 
-/// The shortest of many runs, in ns.
-fn best(mut run: impl FnMut()) -> f64 {
+fn time(run: &mut impl FnMut()) -> Duration {
     let start = Instant::now();
-    let mut best = Duration::MAX;
+    run();
+    start.elapsed()
+}
+
+/// The shortest of many runs of each side, in ns. They take turns, so that a slow
+/// while of the machine is one for both.
+fn best(mut first: impl FnMut(), mut second: impl FnMut()) -> (f64, f64) {
+    let start = Instant::now();
+    let mut best = (Duration::MAX, Duration::MAX);
     while start.elapsed() < DURATION {
-        let run_start = Instant::now();
-        run();
-        best = best.min(run_start.elapsed());
+        best.0 = best.0.min(time(&mut first));
+        best.1 = best.1.min(time(&mut second));
     }
-    best.as_nanos() as f64
+    (best.0.as_nanos() as f64, best.1.as_nanos() as f64)
 }
 
 fn library(input: &Input, buffer: &mut [u8]) -> (u32, usize) {
@@ -51,16 +57,20 @@ fn assert_answers(input: &Input, buffer: &mut [u8]) {
 fn row(input: &Input, buffer: &mut [u8]) {
     assert_answers(input, buffer);
     let bytes = input.interchange.len() as f64;
-    let library = best(|| {
-        black_box(library(black_box(input), buffer));
-    }) / bytes;
-    let second = best(|| {
-        black_box(second(black_box(input)));
-    }) / bytes;
-    let ratio = library / second;
+    let (library, second) = best(
+        || {
+            black_box(library(black_box(input), buffer));
+        },
+        || {
+            black_box(second(black_box(input)));
+        },
+    );
     println!(
-        "| {} | {bytes} | {library:.2} | {second:.2} | {ratio:.2} |",
-        input.name
+        "| {} | {bytes} | {:.2} | {:.2} | {:.2} |",
+        input.name,
+        library / bytes,
+        second / bytes,
+        library / second
     );
 }
 
