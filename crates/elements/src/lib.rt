@@ -151,7 +151,7 @@ fn value_code(e: &[u8], guide: &[[u16; 6]], k: usize) -> u8
 }
 
 // The code of an element's value by row k, 0 for none.
-pub fn element_code(e: &[u8], d: Delimiters, guide: &[[u16; 6]], k: usize) -> u8
+fn element_code(e: &[u8], d: Delimiters, guide: &[[u16; 6]], k: usize) -> u8
     ensures { λ r. ⌜ r ≡ rules.elementCode d (rowAt (now (guide .entry)) k) (now (e .entry)) ⌝ }
 {
     if e.len() == 0 {

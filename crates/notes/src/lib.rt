@@ -34,7 +34,7 @@ fn add_code(out: &mut [u8], n: usize, d: Delimiters, applies: bool, code: u8) ->
 }
 
 // AK3: id, position, nothing, codes.
-pub fn add_ak3(out: &mut [u8], n: usize, d: Delimiters, l: Line) -> usize
+fn add_ak3(out: &mut [u8], n: usize, d: Delimiters, l: Line) -> usize
     ensures { λ r. ⌜ From n (segmentOut d (events.written (events.Line (idBytes (l .id)) (l .position) (codesOf (l .own) (l .faulty))))) r (now (out .entry)) (now (out .exit)) ⌝ }
 {
     let n = writing::add_bytes(out, n, &rules::AK3);

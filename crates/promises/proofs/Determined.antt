@@ -24,7 +24,6 @@ use Rattle.text.proofs.value.Reads as text-value
 use Rattle.text.proofs.is_day.Reads as text-is-day
 use Rattle.text.proofs.is_date.Reads as text-is-date
 use Rattle.text.proofs.is_time.Reads as text-is-time
-use Rattle.text.proofs.is_valid.Reads as text-is-valid
 use Rattle.text.proofs.find_invalid.Reads as text-find-invalid
 use Rattle.text.proofs.all_valid.Reads as text-all-valid
 use Rattle.text.proofs.is_text.Reads as text-is-text
@@ -50,13 +49,8 @@ use Rattle.sets.proofs.set_refusal.Reads as sets-set-refusal
 use Rattle.sets.proofs.control_at.Reads as sets-control-at
 use Rattle.register.proofs.search.Reads as register-search
 use Rattle.refusals.proofs.check.Reads as refusals-check
-use Rattle.verdicts.proofs.Codes.none.Reads as verdicts-Codes-none
-use Rattle.verdicts.proofs.Codes.with.Reads as verdicts-Codes-with
 use Rattle.verdicts.proofs.Codes.is_empty.Reads as verdicts-Codes-is-empty
-use Rattle.verdicts.proofs.declared_count.Reads as verdicts-declared-count
-use Rattle.verdicts.proofs.declares.Reads as verdicts-declares
 use Rattle.verdicts.proofs.set_codes.Reads as verdicts-set-codes
-use Rattle.verdicts.proofs.Edition.has_table.Reads as verdicts-Edition-has-table
 use Rattle.verdicts.proofs.edition_of.Reads as verdicts-edition-of
 use Rattle.verdicts.proofs.is_supported.Reads as verdicts-is-supported
 use Rattle.verdicts.proofs.is_load_response.Reads as verdicts-is-load-response
@@ -67,12 +61,10 @@ use Rattle.verdicts.proofs.allowed.Reads as verdicts-allowed
 use Rattle.tables.proofs.number.Reads as tables-number
 use Rattle.tables.proofs.is_segment.Reads as tables-is-segment
 use Rattle.tables.proofs.is_element.Reads as tables-is-element
-use Rattle.tables.proofs.is_value.Reads as tables-is-value
 use Rattle.tables.proofs.is_note.Reads as tables-is-note
 use Rattle.tables.proofs.kind_of.Reads as tables-kind-of
 use Rattle.tables.proofs.relation_of.Reads as tables-relation-of
 use Rattle.tables.proofs.is_entry.Reads as tables-is-entry
-use Rattle.tables.proofs.next_entry.Reads as tables-next-entry
 use Rattle.tables.proofs.next_in_order.Reads as tables-next-in-order
 use Rattle.tables.proofs.reach.Reads as tables-reach
 use Rattle.tables.proofs.next_mandatory.Reads as tables-next-mandatory
@@ -83,7 +75,6 @@ use Rattle.tables.proofs.is_known.Reads as tables-is-known
 use Rattle.guides.proofs.directory.Reads as guides-directory
 use Rattle.guides.proofs.guide_006010.Reads as guides-guide-006010
 use Rattle.guides.proofs.guide_004010.Reads as guides-guide-004010
-use Rattle.elements.proofs.element_code.Reads as elements-element-code
 use Rattle.elements.proofs.next_code.Reads as elements-next-code
 use Rattle.elements.proofs.is_clean.Reads as elements-is-clean
 use Rattle.findings.proofs.start.Reads as findings-start
@@ -91,14 +82,9 @@ use Rattle.findings.proofs.next.Reads as findings-next
 use Rattle.findings.proofs.is_noted.Reads as findings-is-noted
 use Rattle.writing.proofs.clipped.Reads as writing-clipped
 use Rattle.writing.proofs.joined.Reads as writing-joined
-use Rattle.writing.proofs.put_byte.Reads as writing-put-byte
-use Rattle.writing.proofs.put_bytes.Reads as writing-put-bytes
 use Rattle.writing.proofs.add_byte.Reads as writing-add-byte
 use Rattle.writing.proofs.add_bytes.Reads as writing-add-bytes
-use Rattle.writing.proofs.put_number.Reads as writing-put-number
-use Rattle.writing.proofs.put_padded.Reads as writing-put-padded
 use Rattle.writing.proofs.add_number.Reads as writing-add-number
-use Rattle.writing.proofs.add_padded.Reads as writing-add-padded
 use Rattle.writing.proofs.add_field.Reads as writing-add-field
 use Rattle.writing.proofs.add_single.Reads as writing-add-single
 use Rattle.writing.proofs.add_count.Reads as writing-add-count
@@ -117,7 +103,6 @@ use Rattle.blocks.proofs.add_ak9.Reads as blocks-add-ak9
 use Rattle.blocks.proofs.add_se.Reads as blocks-add-se
 use Rattle.blocks.proofs.add_ge.Reads as blocks-add-ge
 use Rattle.blocks.proofs.add_iea.Reads as blocks-add-iea
-use Rattle.notes.proofs.add_ak3.Reads as notes-add-ak3
 use Rattle.notes.proofs.put_notes.Reads as notes-put-notes
 use Rattle.first_line.proofs.call_of.Reads as first-line-call-of
 use Rattle.first_line.proofs.put_refused.Reads as first-line-put-refused
@@ -190,9 +175,6 @@ text-is-date-once κs a r₁ r₂ s₁ s₂ p q = p ∙ sym q
 
 text-is-time-once : Once text-is-time.Post (λ κs r s. r)
 text-is-time-once κs a r₁ r₂ s₁ s₂ p q = p ∙ sym q
-
-text-is-valid-once : Once text-is-valid.Post (λ κs r s. r)
-text-is-valid-once κs a r₁ r₂ s₁ s₂ p q = p ∙ sym q
 
 text-find-invalid-once : Once text-find-invalid.Post (λ κs r s. r)
 text-find-invalid-once κs a r₁ r₂ s₁ s₂ p q = p ∙ sym q
@@ -277,26 +259,11 @@ refusals-check-once : Once refusals-check.Post (λ κs r s. r)
 refusals-check-once κs a r₁ r₂ s₁ s₂ p q = p ∙ sym q
 
 -- verdicts
-verdicts-Codes-none-once : Once verdicts-Codes-none.Post (λ κs r s. r)
-verdicts-Codes-none-once κs a r₁ r₂ s₁ s₂ p q = p ∙ sym q
-
-verdicts-Codes-with-once : Once verdicts-Codes-with.Post (λ κs r s. r)
-verdicts-Codes-with-once κs a r₁ r₂ s₁ s₂ p q = p ∙ sym q
-
 verdicts-Codes-is-empty-once : Once verdicts-Codes-is-empty.Post (λ κs r s. r)
 verdicts-Codes-is-empty-once κs a r₁ r₂ s₁ s₂ p q = p ∙ sym q
 
-verdicts-declared-count-once : Once verdicts-declared-count.Post (λ κs r s. r)
-verdicts-declared-count-once κs a r₁ r₂ s₁ s₂ p q = p ∙ sym q
-
-verdicts-declares-once : Once verdicts-declares.Post (λ κs r s. r)
-verdicts-declares-once κs a r₁ r₂ s₁ s₂ p q = p ∙ sym q
-
 verdicts-set-codes-once : Once verdicts-set-codes.Post (λ κs r s. r)
 verdicts-set-codes-once κs a r₁ r₂ s₁ s₂ p q = p ∙ sym q
-
-verdicts-Edition-has-table-once : Once verdicts-Edition-has-table.Post (λ κs r s. r)
-verdicts-Edition-has-table-once κs a r₁ r₂ s₁ s₂ p q = p ∙ sym q
 
 verdicts-edition-of-once : Once verdicts-edition-of.Post (λ κs r s. r)
 verdicts-edition-of-once κs a r₁ r₂ s₁ s₂ p q = p ∙ sym q
@@ -329,9 +296,6 @@ tables-is-segment-once κs a r₁ r₂ s₁ s₂ p q = p ∙ sym q
 tables-is-element-once : Once tables-is-element.Post (λ κs r s. r)
 tables-is-element-once κs a r₁ r₂ s₁ s₂ p q = p ∙ sym q
 
-tables-is-value-once : Once tables-is-value.Post (λ κs r s. r)
-tables-is-value-once κs a r₁ r₂ s₁ s₂ p q = p ∙ sym q
-
 tables-is-note-once : Once tables-is-note.Post (λ κs r s. r)
 tables-is-note-once κs a r₁ r₂ s₁ s₂ p q = p ∙ sym q
 
@@ -343,9 +307,6 @@ tables-relation-of-once κs a r₁ r₂ s₁ s₂ p q = p ∙ sym q
 
 tables-is-entry-once : Once tables-is-entry.Post (λ κs r s. r)
 tables-is-entry-once κs a r₁ r₂ s₁ s₂ p q = p ∙ sym q
-
-tables-next-entry-once : Once tables-next-entry.Post (λ κs r s. r)
-tables-next-entry-once κs a r₁ r₂ s₁ s₂ p q = p ∙ sym q
 
 tables-next-in-order-once : Once tables-next-in-order.Post (λ κs r s. r)
 tables-next-in-order-once κs a r₁ r₂ s₁ s₂ p q = p ∙ sym q
@@ -379,9 +340,6 @@ guides-guide-004010-once : Once guides-guide-004010.Post (λ κs r s. r)
 guides-guide-004010-once κs a r₁ r₂ s₁ s₂ p q = p ∙ sym q
 
 -- elements
-elements-element-code-once : Once elements-element-code.Post (λ κs r s. r)
-elements-element-code-once κs a r₁ r₂ s₁ s₂ p q = p ∙ sym q
-
 elements-next-code-once : Once elements-next-code.Post (λ κs r s. r)
 elements-next-code-once κs a r₁ r₂ s₁ s₂ p q = p ∙ sym q
 
@@ -405,29 +363,14 @@ writing-clipped-once κs a r₁ r₂ s₁ s₂ p q = p ∙ sym q
 writing-joined-once : Once writing-joined.Post (λ κs r s. r)
 writing-joined-once κs a r₁ r₂ s₁ s₂ p q = p ∙ sym q
 
-writing-put-byte-once : Once writing-put-byte.Post (λ κs r s. written r (now (s .0)))
-writing-put-byte-once κs a r₁ r₂ s₁ s₂ p q = wrote-once p q
-
-writing-put-bytes-once : Once writing-put-bytes.Post (λ κs r s. written r (now (s .0)))
-writing-put-bytes-once κs a r₁ r₂ s₁ s₂ p q = wrote-once p q
-
 writing-add-byte-once : Once writing-add-byte.Post (λ κs r s. written r (now (s .0)))
 writing-add-byte-once κs a r₁ r₂ s₁ s₂ p q = from-once p q
 
 writing-add-bytes-once : Once writing-add-bytes.Post (λ κs r s. written r (now (s .0)))
 writing-add-bytes-once κs a r₁ r₂ s₁ s₂ p q = from-once p q
 
-writing-put-number-once : Once writing-put-number.Post (λ κs r s. written r (now (s .0)))
-writing-put-number-once κs a r₁ r₂ s₁ s₂ p q = wrote-once p q
-
-writing-put-padded-once : Once writing-put-padded.Post (λ κs r s. written r (now (s .0)))
-writing-put-padded-once κs a r₁ r₂ s₁ s₂ p q = wrote-once p q
-
 writing-add-number-once : Once writing-add-number.Post (λ κs r s. written r (now (s .0)))
 writing-add-number-once κs a r₁ r₂ s₁ s₂ p q = from-once p q
-
-writing-add-padded-once : Once writing-add-padded.Post (λ κs r s. written r (now (s .0)))
-writing-add-padded-once κs a r₁ r₂ s₁ s₂ p q = from-once p q
 
 writing-add-field-once : Once writing-add-field.Post (λ κs r s. written r (now (s .0)))
 writing-add-field-once κs a r₁ r₂ s₁ s₂ p q = from-once p q
@@ -485,9 +428,6 @@ blocks-add-iea-once : Once blocks-add-iea.Post (λ κs r s. written r (now (s .0
 blocks-add-iea-once κs a r₁ r₂ s₁ s₂ p q = from-once p q
 
 -- notes
-notes-add-ak3-once : Once notes-add-ak3.Post (λ κs r s. written r (now (s .0)))
-notes-add-ak3-once κs a r₁ r₂ s₁ s₂ p q = from-once p q
-
 notes-put-notes-once : Once notes-put-notes.Post (λ κs r s. written r (now (s .0)))
 notes-put-notes-once κs a r₁ r₂ s₁ s₂ p q = tells-once p q
 

@@ -1,13 +1,13 @@
 -- Laws of tests, lists and rules that hold whatever they are about.
-use mathlib.Core.Path.{_≡_, refl, sym, ap, subst⁻¹}
+use mathlib.Core.Path.{_≡_, refl, ap, subst⁻¹}
 use mathlib.Core.Bool.{Bool, true, false, _&&_, _||_, not, false≢true, true≢false}
 use mathlib.Core.List.{List, [], _∷_, _++_}
 use Prim.Native.Nat.{ℕ, zero, suc, _<_}
 use native.Mathlib.Nat.{not-suc-le-zero, le-of-suc-le-suc}
-use borrow.Author.Tests.{eqb-true, eq-eqb, not-true}
+use borrow.Author.Tests.{eqb-true}
 use lib.Dec.{T, T-not, eqb}
 use lib.ListN.{length, getD}
-use Rattle.rules.specs.Base.{Bytes, same, all, any, front, last, Rule, _⇒_, first}
+use Rattle.rules.specs.Base.{Bytes, same, all, front, last, Rule, _⇒_, first}
 
 pub and-left : (a b : Bool) → a && b ≡ true → a ≡ true
 and-left true b e = refl
@@ -32,11 +32,6 @@ same→eq [] (y ∷ b) e = absurd (false≢true e)
 same→eq (x ∷ a) [] e = absurd (false≢true e)
 same→eq (x ∷ a) (y ∷ b) e =
     rw (eqb-true x y (and-left (eqb x y) (same a b) e), same→eq a b (and-right (eqb x y) (same a b) e))
-
-pub same-refl : (a : Bytes) → same a a ≡ true
-unfolding same
-same-refl [] = refl
-same-refl (x ∷ a) = rw (eq-eqb x x refl, same-refl a)
 
 module _ {A : Type 0} (p : A → Bool) where
   pub all-head : (x : A) (xs : List A) → all p (x ∷ xs) ≡ true → p x ≡ true

@@ -3,7 +3,7 @@ use mathlib.Core.Path.{_≡_, refl, sym, ap, _∙_}
 use mathlib.Core.Bool.{Bool, true, false, not}
 use mathlib.Core.List.{List, [], _∷_, _++_, map, map-append, append-nil, append-assoc}
 use Prim.Native.Nat.{ℕ, _+_, _-_, _<_, _≤_}
-use native.Mathlib.Nat.{not-suc-le-zero, zero-lt-suc, sub-zero, sub-self}
+use native.Mathlib.Nat.{not-suc-le-zero, zero-lt-suc, sub-self}
 use native.Mathlib.Omega.{arith}
 use borrow.Author.Tests.{not-true, ltb-true, ltb-false}
 use lib.Dec.{eqb, ltb}
@@ -122,15 +122,6 @@ module _ {t : ℕ} {s : Bytes} {start at : ℕ} (w : WholePart t s start at) whe
           whole = λ k. rw (longer, found-ended t s at end q (omega arith)) (whole-append t _ _ (w .whole (omega arith)) ended);
         }
 
--- the same for all that lies before the cursor
-module _ {t : ℕ} {s : Bytes} {at : ℕ} (w : WholePart t s 0 at) where
-  pub pieces-split : pieces t s ≡ pieces t (take at s) ++ pieces t (drop at s)
-  pieces-split = simp sub-zero at (pieces-rest w)
-
-  pub pieces-past : {end : ℕ} → at < length s → end ≡ at + indexOf t (drop at s)
-      → pieces t (take (end + 1) s) ≡ pieces t (take at s) ++ (take (end - at) (drop at s) ∷ [])
-  pieces-past h q = simp sub-zero at (pieces-part w h q)
-
 -- 3. The same for segments.
 module _ (d : Delimiters) (s : Bytes) (at end : ℕ) (h : at < length s) (q : end ≡ at + indexOf (d .terminator) (drop at s)) where
   pub segments-at : segments d (drop at s) ≡ split (d .element) (take (end - at) (drop at s)) ∷ segments d (drop (end + 1) s)
@@ -155,13 +146,3 @@ module _ (d : Delimiters) {s : Bytes} {start at : ℕ} (w : WholePart (d .termin
       ≡ segments d (take (at - start) (drop start s)) ++ (split (d .element) (take (end - at) (drop at s)) ∷ [])
   unfolding segments
   segments-part h q = rw (pieces-part w h q, map-append)
-
-module _ (d : Delimiters) {s : Bytes} {at : ℕ} (w : WholePart (d .terminator) s 0 at) where
-  pub segments-split : segments d s ≡ segments d (take at s) ++ segments d (drop at s)
-  unfolding segments
-  segments-split = rw (pieces-split w, map-append)
-
-  pub segments-past : {end : ℕ} → at < length s → end ≡ at + indexOf (d .terminator) (drop at s)
-      → segments d (take (end + 1) s) ≡ segments d (take at s) ++ (split (d .element) (take (end - at) (drop at s)) ∷ [])
-  unfolding segments
-  segments-past h q = rw (pieces-past w h q, map-append)

@@ -11,7 +11,7 @@ use lib.Dec.{eqb, ltb, lit<}
 use lib.ListN.{length, getD, take, drop, drop-of-length-le, List·getD-eq-default}
 use lib.Seq.{drop-cons, getD-drop, getD-take}
 use Rattle.rules.specs.Base.{Bytes, same, null, all, any, member}
-use Rattle.rules.specs.Tables.{isRow, filled, codesIn, rowsIn, notesIn, entriesIn}
+use Rattle.rules.specs.Tables.{isRow, filled, codesIn, rowsIn, notesIn}
 use Rattle.rules.proofs.Logic.{and-left, and-right, all-at}
 use Rattle.tables.specs.Reading.{Guide, isByte, entryAt, rowAt, noteAt, codesAt, idIn, idAt, idBytes, idsAreBytes}
 
@@ -43,19 +43,6 @@ module _ (rows : Guide) (k : ℕ) where
 
   past : length rows ≤ k → drop k rows ≡ drop (k + 1) rows
   past h = none h ∙ sym (drop-of-length-le rows {i = k + 1} (omega arith))
-
-  -- the entries
-  pub entries-here : isRow 1 (getD rows k []) ≡ true → entriesIn (drop k rows) ≡ entryAt rows k ∷ entriesIn (drop (k + 1) rows)
-  unfolding entriesIn
-  entries-here e = rw (here (row-within 1 (lit< tt) rows k e), e)
-
-  pub entries-skip : isRow 1 (getD rows k []) ≡ false → entriesIn (drop k rows) ≡ entriesIn (drop (k + 1) rows)
-  unfolding entriesIn
-  entries-skip e = either (λ h. rw (here h, e)) (λ h. ap entriesIn (past h))
-
-  pub entries-end : length rows ≤ k → entriesIn (drop k rows) ≡ []
-  unfolding entriesIn
-  entries-end h = ap entriesIn (none h)
 
   -- the elements of a segment
   pub rows-here : isRow 2 (getD rows k []) ≡ true → rowsIn (drop k rows) ≡ rowAt rows k ∷ rowsIn (drop (k + 1) rows)

@@ -42,10 +42,6 @@ isEntryRow id r = isRow 1 r && same (filled (idIn r)) id
 abbrev pub isMandatoryRow : List ℕ → Bool
 isMandatoryRow r = isRow 1 r && eqb (column r 4) 1
 
--- the first segment row from k on
-unfoldable pub nextEntry : Guide → ℕ → ℕ
-nextEntry rows k = nextWhere (isRow 1) rows k
-
 -- the first segment row from k on with this id
 unfoldable pub reachFrom : Guide → ℕ → Bytes → ℕ
 reachFrom rows k id = nextWhere (isEntryRow id) rows k

@@ -7,7 +7,7 @@ ghost use lib.ListN.{getD, drop};
 ghost use Rattle.rules.specs.Base.{same, member, null};
 ghost use Rattle.rules.specs.Tables.{isRow, filled, kindOf, relationOf, idsIn};
 ghost use Rattle.text.specs.Text.{nextWhere};
-ghost use Rattle.tables.specs.Reading.{entryAt, codesAt, idIn, isEntryRow, isMandatoryRow, nextEntry, reachFrom, nextMandatory, nextInOrder, idAt};
+ghost use Rattle.tables.specs.Reading.{entryAt, codesAt, idIn, isEntryRow, isMandatoryRow, reachFrom, nextMandatory, nextInOrder, idAt};
 use rules::Kind;
 use rules::Relation;
 
@@ -153,7 +153,7 @@ pub fn is_element(guide: &[[u16; 6]], k: usize) -> bool
 }
 
 // Row k is a code value of the element above it.
-pub fn is_value(guide: &[[u16; 6]], k: usize) -> bool
+fn is_value(guide: &[[u16; 6]], k: usize) -> bool
     ensures { λ r. ⌜ r ≡ isRow 3 (getD (now (guide .entry)) k []) ⌝ }
 {
     is_row(guide, VALUE, k)
@@ -200,20 +200,6 @@ pub fn is_entry(guide: &[[u16; 6]], k: usize, id: &[u8]) -> bool
         return is_id(guide[k], id);
     }
     id.len() == 0
-}
-
-// The first segment from row `from` on.
-pub fn next_entry(guide: &[[u16; 6]], from: usize) -> usize
-    ensures { λ r. ⌜ r ≡ nextEntry (now (guide .entry)) from ⌝ }
-{
-    let mut k = from;
-    while k < guide.len() {
-        if is_segment(guide, k) {
-            return k;
-        }
-        k += 1;
-    }
-    k
 }
 
 // The first segment with this id from row `from` on; the number of rows where there is none, and `from` where that is past the end.

@@ -1,7 +1,7 @@
 -- Digits and the number that they stand for.
 use Prim.Native.Nat.{ℕ, suc, _+_, _-_, _*_, _^_, _<_, _≤_}
-use mathlib.Core.Path.{_≡_, refl}
-use mathlib.Core.Bool.{Bool, true, false}
+use mathlib.Core.Path.{_≡_}
+use mathlib.Core.Bool.{Bool, true}
 use mathlib.Core.List.{[], _∷_}
 use native.Mathlib.Nat.{add-zero, pow-suc, pow-le-pow-right, lt-of-lt-of-le}
 use native.Mathlib.Numerals.{add-one}
@@ -81,11 +81,3 @@ value-by s q h e = rw (le-leb 0 (length s) (omega arith), le-leb (length s) 10 h
 
 pub value-of : (lo hi : ℕ) (s : Bytes) → digits lo hi s ≡ true → hi ≤ 10 → upToTen s ≡ value s
 value-of lo hi s e h = let l = digits-length lo hi s e in value-by s true (omega arith) (digits-all lo hi s e)
-
-pub upToTen-below : (s : Bytes) → upToTen s < 10000000000
-unfolding upToTen
-upToTen-below s = go (digits 0 10 s) refl
-  where
-    go : (q : Bool) → digits 0 10 s ≡ q → (if q then value s else 0) < 10000000000
-    go true e = value-below 0 10 s e
-    go false e = lit< tt

@@ -1,13 +1,13 @@
 -- The search for what passes a test: one turn of it, and where it ends.
-use Prim.Native.Nat.{ℕ, zero, suc, _+_, _-_, _<_, _≤_, suc-le-suc}
-use mathlib.Core.Path.{_≡_, refl, ap}
+use Prim.Native.Nat.{ℕ, suc, _+_, _-_, _<_, _≤_, suc-le-suc}
+use mathlib.Core.Path.{_≡_}
 use mathlib.Core.Bool.{Bool, true, false}
 use mathlib.Core.List.{List, [], _∷_}
-use native.Mathlib.Nat.{not-suc-le-zero, le-of-suc-le-suc, add-zero, zero-add, suc-add}
+use native.Mathlib.Nat.{add-zero}
 use native.Mathlib.Numerals.{add-one}
 use native.Mathlib.Omega.{arith}
 use lib.ListN.{length, getD, drop, drop-of-length-le, length-drop}
-use lib.Seq.{drop-cons, drop-drop, getD-drop}
+use lib.Seq.{drop-cons}
 use Rattle.rules.specs.Base.{if_then_else_}
 use Rattle.text.specs.Text.{indexWhere, nextWhere}
 
@@ -42,35 +42,6 @@ module _ {A : Type 0} (p : A → Bool) where
       go true h = omega arith
       go false h = suc-le-suc h
 
-  index-passes : (xs : List A) (d : A) → indexWhere p xs < length xs → p (getD xs (indexWhere p xs) d) ≡ true
-  index-passes [] d h = absurd (not-suc-le-zero h)
-  index-passes (x ∷ xs) d h = go (p x) refl (index-passes xs d)
-    where
-      go : (b : Bool) → p x ≡ b → (indexWhere p xs < length xs → p (getD xs (indexWhere p xs) d) ≡ true)
-          → p (getD (x ∷ xs) (indexWhere p (x ∷ xs)) d) ≡ true
-      go true e f = rw (index-yes x xs e) e
-      go false e f = rw (index-no x xs e) (f (le-of-suc-le-suc (rw (index-no x xs e) at h)))
-
-  index-again : (xs : List A) (i : ℕ) → i ≤ indexWhere p xs → i + indexWhere p (drop i xs) ≡ indexWhere p xs
-  index-again xs zero h = zero-add (indexWhere p xs)
-  index-again [] (suc i) h = absurd (omega (arith, index-le []))
-  index-again (x ∷ xs) (suc i) h = go (p x) refl (index-again xs i)
-    where
-      go : (b : Bool) → p x ≡ b → (i ≤ indexWhere p xs → i + indexWhere p (drop i xs) ≡ indexWhere p xs)
-          → suc i + indexWhere p (drop i xs) ≡ indexWhere p (x ∷ xs)
-      go true e f = absurd (not-suc-le-zero (rw (index-yes x xs e) at h))
-      go false e f = rw (index-no x xs e, suc-add) (ap suc (f (le-of-suc-le-suc (rw (index-no x xs e) at h))))
-
   -- from k on: not past the end, and what is found passes
   pub next-within : (xs : List A) (k : ℕ) → k ≤ length xs → nextWhere p xs k ≤ length xs
   next-within xs k h = omega (arith, index-le (drop k xs), length-drop k xs)
-
-  pub next-passes : (xs : List A) (k : ℕ) (d : A) → nextWhere p xs k < length xs → p (getD xs (nextWhere p xs k) d) ≡ true
-  next-passes xs k d h = rw (← getD-drop) (index-passes (drop k xs) d (omega (arith, length-drop k xs)))
-
--- a search that starts again before what it found finds the same
-pub next-again : {A : Type 0} (p : A → Bool) (xs : List A) (k j : ℕ) → k ≤ j → j ≤ nextWhere p xs k → nextWhere p xs j ≡ nextWhere p xs k
-next-again p xs k j h g =
-    let e : k + (j - k) ≡ j = omega arith in
-    let d : drop (j - k) (drop k xs) ≡ drop j xs = rw (drop-drop, e) in
-    omega (arith, rw d at (index-again p (drop k xs) (j - k) (omega arith)))

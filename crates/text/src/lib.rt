@@ -182,7 +182,7 @@ pub fn is_time(s: &[u8]) -> bool
 }
 
 // A valid byte: 32 to 126 and no delimiter.
-pub fn is_valid(b: u8, d: Delimiters) -> bool
+fn is_valid(b: u8, d: Delimiters) -> bool
     ensures { λ r. ⌜ r ≡ valid d b ⌝ }
 {
     (32 <= b) & (b <= 126) & (b != d.element) & (b != d.component) & (b != d.terminator)

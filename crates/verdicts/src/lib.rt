@@ -52,7 +52,7 @@ impl Codes {
     pub const MOST: usize = 6;
 
     // No code.
-    pub fn none() -> Self
+    fn none() -> Self
         ensures { λ r. ⌜ r ≡ noCodes ⌝ }
     {
         Self {
@@ -62,7 +62,7 @@ impl Codes {
     }
 
     // One more where it applies. Where there are six, no more fits.
-    pub fn with(self, applies: bool, code: u8) -> Self
+    fn with(self, applies: bool, code: u8) -> Self
         ensures { λ r. ⌜ r ≡ withCode self applies code ⌝ }
     {
         if !applies {
@@ -95,7 +95,7 @@ pub enum Declared {
 }
 
 // The count that one to `most` digits declare, or one to ten where `most` is greater.
-pub fn declared_count(s: &[u8], most: usize) -> Declared
+fn declared_count(s: &[u8], most: usize) -> Declared
     ensures { λ r. ⌜ r ≡ counted (numbers.declared (min most 10) (now (s .entry))) ⌝ }
 {
     if is_digits(s, 1, at_most_ten(most)) {
@@ -113,7 +113,7 @@ fn at_most_ten(most: usize) -> usize
 }
 
 // One to `most` digits declare the count n, where one to ten are read at most.
-pub fn declares(s: &[u8], most: usize, n: u64) -> bool
+fn declares(s: &[u8], most: usize, n: u64) -> bool
     ensures { λ r. ⌜ r ≡ numbers.declares (min most 10) (now (s .entry)) n ⌝ }
 {
     match declared_count(s, most) {
@@ -168,7 +168,7 @@ pub enum Edition {
 
 impl Edition {
     // There is a table for it.
-    pub fn has_table(self) -> bool
+    fn has_table(self) -> bool
         ensures { λ r. ⌜ r ≡ not (isNone (tableFor self)) ⌝ }
     {
         match self {

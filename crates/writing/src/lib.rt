@@ -26,7 +26,7 @@ pub fn joined(n: usize, m: usize) -> usize
 }
 
 // One byte.
-pub fn put_byte(out: &mut [u8], b: u8) -> usize
+fn put_byte(out: &mut [u8], b: u8) -> usize
     ensures { λ r. ⌜ Wrote (b ∷ []) r (now (out .entry)) (now (out .exit)) ⌝ }
 {
     if 0 < out.len() {
@@ -36,7 +36,7 @@ pub fn put_byte(out: &mut [u8], b: u8) -> usize
 }
 
 // Bytes as they are.
-pub fn put_bytes(out: &mut [u8], bytes: &[u8]) -> usize
+fn put_bytes(out: &mut [u8], bytes: &[u8]) -> usize
     ensures { λ r. ⌜ Wrote (now (bytes .entry)) r (now (out .entry)) (now (out .exit)) ⌝ }
 {
     let end = clipped(bytes.len(), out.len());
@@ -67,7 +67,7 @@ pub fn add_bytes(out: &mut [u8], n: usize, bytes: &[u8]) -> usize
 }
 
 // A number without leading zeros.
-pub fn put_number(out: &mut [u8], v: u64) -> usize
+fn put_number(out: &mut [u8], v: u64) -> usize
     ensures { λ r. ⌜ Wrote (decimal v) r (now (out .entry)) (now (out .exit)) ⌝ }
 {
     let digit = b'0' + (v % 10) as u8;
@@ -79,7 +79,7 @@ pub fn put_number(out: &mut [u8], v: u64) -> usize
 }
 
 // The last w digits of a number.
-pub fn put_padded(out: &mut [u8], v: u64, w: usize) -> usize
+fn put_padded(out: &mut [u8], v: u64, w: usize) -> usize
     ensures { λ r. ⌜ Wrote (padded w v) r (now (out .entry)) (now (out .exit)) ⌝ }
 {
     if w == 0 {
@@ -99,7 +99,7 @@ pub fn add_number(out: &mut [u8], n: usize, v: u64) -> usize
 }
 
 // The last w digits of a number, after n bytes.
-pub fn add_padded(out: &mut [u8], n: usize, v: u64, w: usize) -> usize
+fn add_padded(out: &mut [u8], n: usize, v: u64, w: usize) -> usize
     ensures { λ r. ⌜ From n (padded w v) r (now (out .entry)) (now (out .exit)) ⌝ }
 {
     let at = clipped(n, out.len());
