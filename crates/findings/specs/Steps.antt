@@ -65,13 +65,17 @@ echo id =
 abbrev pub within : ℕ → ℕ → Standing → Standing → Standing
 within k n found none = if ltb k n then found else none
 
+-- how an id stands to an entry that has another one
+abbrev pub standsElsewhere : Guide → ℕ → Bytes → Standing
+standsElsewhere rows entry id =
+    let ahead = reachFrom rows (bumped entry) id in
+    let any = reachFrom rows 0 id in
+    within ahead (length rows) (Later ahead) (within any (length rows) (Before any) Unlisted)
+
 -- how an id stands to the present entry
 unfoldable pub stands : List (List ℕ) → Guide → ℕ → Bytes → Standing
 stands ids rows entry id =
-    let ahead = reachFrom rows (bumped entry) id in
-    let any = reachFrom rows 0 id in
-    if member id (idsIn ids) then (if same (entryAt rows entry .id) id then Again
-    else within ahead (length rows) (Later ahead) (within any (length rows) (Before any) Unlisted))
+    if member id (idsIn ids) then (if same (entryAt rows entry .id) id then Again else standsElsewhere rows entry id)
     else Unknown
 
 -- what a standing comes to: the code, the entry by which the elements are checked, the place after it, and where the entries that are

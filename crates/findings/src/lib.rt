@@ -164,6 +164,21 @@ fn echo(id: &[u8]) -> SegmentId
     }
 }
 
+// How an id stands to an entry that has another one.
+fn stands_elsewhere(id: &[u8], guide: &[[u16; 6]], entry: usize) -> Standing
+    ensures { λ r. ⌜ r ≡ steps.standsElsewhere (now (guide .entry)) entry (now (id .entry)) ⌝ }
+{
+    let ahead = tables::reach(guide, bumped(entry), id);
+    if ahead < guide.len() {
+        return Standing::Later(ahead);
+    }
+    let any = tables::reach(guide, 0, id);
+    if any < guide.len() {
+        return Standing::Before(any);
+    }
+    Standing::Unlisted
+}
+
 // How an id stands to the present entry.
 fn stands(id: &[u8], directory: &[[u8; 3]], guide: &[[u16; 6]], entry: usize) -> Standing
     ensures { λ r. ⌜ r ≡ steps.stands (now (directory .entry)) (now (guide .entry)) entry (now (id .entry)) ⌝ }
@@ -174,15 +189,7 @@ fn stands(id: &[u8], directory: &[[u8; 3]], guide: &[[u16; 6]], entry: usize) ->
     if tables::is_entry(guide, entry, id) {
         return Standing::Again;
     }
-    let ahead = tables::reach(guide, bumped(entry), id);
-    if ahead < guide.len() {
-        return Standing::Later(ahead);
-    }
-    let any = tables::reach(guide, 0, id);
-    if any < guide.len() {
-        return Standing::Before(any);
-    }
-    Standing::Unlisted
+    stands_elsewhere(id, guide, entry)
 }
 
 // The segment up to `end` is in hand with a code, to be checked by the entry of row `check`; the place stays.
