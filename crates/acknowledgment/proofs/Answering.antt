@@ -26,7 +26,7 @@ use Rattle.rules.proofs.Logic.{and-right, silent}
 use Rattle.tables.specs.Reading.{Guide, Limits}
 use Rattle.guides.specs.Encoded.{guide006010, guide004010}
 use Rattle.guides.proofs.Editions.{means-006010, means-004010, limits-006010, limits-004010}
-use Rattle.frame.specs.Places.{part}
+use Rattle.text.specs.Text.{part}
 use Rattle.frame.specs.declared.Frame.{Frame}
 use Rattle.frame.proofs.Laws.{FrameIs}
 use Rattle.sets.proofs.Refused.{passed}

@@ -17,7 +17,7 @@ use Rattle.rules.specs.declared.Delimiters.{Delimiters}
 use Rattle.rules.proofs.Facts.{reports-count}
 use Rattle.rules.proofs.Lengths.{transaction-counted}
 use Rattle.tables.specs.Reading.{Guide}
-use Rattle.frame.specs.Places.{part}
+use Rattle.text.specs.Text.{part}
 use Rattle.frame.specs.declared.Frame.{Frame}
 use Rattle.frame.proofs.Laws.{trailerIn, FrameIs}
 use Rattle.verdicts.specs.Collecting.{codesOf, collected}

@@ -15,7 +15,7 @@ use Rattle.rules.specs.Response.{out, transactionSet}
 use Rattle.rules.specs.declared.Delimiters.{Delimiters}
 use Rattle.tables.specs.Reading.{Guide, Limits}
 use Rattle.guides.specs.Encoded.{directoryRows}
-use Rattle.frame.specs.Places.{part}
+use Rattle.text.specs.Text.{part}
 use Rattle.frame.specs.declared.Frame.{Frame}
 use Rattle.frame.proofs.Laws.{FrameIs}
 use Rattle.sets.proofs.Refused.{Passed}

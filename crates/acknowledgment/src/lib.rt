@@ -12,7 +12,7 @@ ghost use Rattle.rules.specs.Response as text;
 ghost use Rattle.rules.specs.Answers.{Allowed, fitting, buffer, called};
 ghost use Rattle.tables.specs.Reading.{Limits};
 ghost use Rattle.guides.specs.Encoded.{directoryRows};
-ghost use Rattle.frame.specs.Places.{part};
+ghost use Rattle.text.specs.Text.{part};
 ghost use Rattle.frame.proofs.Laws.{FrameIs};
 ghost use Rattle.sets.specs.Places.{setAt};
 ghost use Rattle.sets.proofs.Sets.{SetIs};

@@ -58,7 +58,7 @@ module _ (d : Delimiters) where
 
   -- they end where the first separator is
   stop-whole : (xs : Bytes) → (stop xs < length xs → getD xs (stop xs) 0 ≡ d .element) → stop xs ≡ indexOf (d .element) xs
-  unfolding indexOf indexWhere
+  unfolding indexWhere
   stop-whole [] h = refl
   stop-whole (x ∷ xs) h = go (valid d x) refl (stop-whole xs)
     where
@@ -75,7 +75,7 @@ module _ (d : Delimiters) where
   -- or the field goes on with a byte that is not valid
   stop-spoiled : (xs : Bytes) → stop xs < length xs → (getD xs (stop xs) 0 ≡ d .element → ⊥)
       → all (valid d) (take (indexOf (d .element) xs) xs) ≡ false
-  unfolding indexOf all
+  unfolding indexWhere all
   stop-spoiled [] l h = absurd (not-suc-le-zero l)
   stop-spoiled (x ∷ xs) l h = go (valid d x) refl (stop-spoiled xs)
     where

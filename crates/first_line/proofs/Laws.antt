@@ -17,7 +17,7 @@ use Rattle.rules.specs.Program.{Input, parted, behindByte, isCall, refusedText,
 use Rattle.rules.specs.Response.{response}
 use Rattle.rules.specs.Answers.{answer}
 use Rattle.rules.proofs.Logic.{and-left, and-right}
-use Rattle.text.specs.Text.{indexOf, upToTen}
+use Rattle.text.specs.Text.{indexOf, indexWhere, upToTen}
 use Rattle.text.proofs.Digits.{digits-length, value-of, value-below}
 use Rattle.text.proofs.Loops.{and-false}
 use Rattle.first_line.specs.Calls.{callOn, callFor, callIn}
@@ -97,7 +97,7 @@ abbrev cutAt : ℕ → Bytes → Input
 cutAt n s = record { line = take n s; interchange = drop (suc n) s }
 
 no-line : (s : Bytes) → length s ≤ indexOf 10 s → parted s ≡ none
-unfolding parted indexOf
+unfolding parted indexWhere
 no-line [] h = refl
 no-line (b ∷ bs) h = go (eqb b 10) (no-line bs) h
   where
@@ -107,7 +107,7 @@ no-line (b ∷ bs) h = go (eqb b 10) (no-line bs) h
     go false ih k = rw (ih (le-of-suc-le-suc k))
 
 line-at : (s : Bytes) → indexOf 10 s < length s → parted s ≡ some (cutAt (indexOf 10 s) s)
-unfolding parted indexOf
+unfolding parted indexWhere
 line-at [] h = absurd (omega arith)
 line-at (b ∷ bs) h = go (eqb b 10) (line-at bs) h
   where

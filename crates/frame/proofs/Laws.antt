@@ -19,7 +19,8 @@ use Rattle.rules.proofs.Logic.{and-left, and-right, all-append}
 use Rattle.rules.proofs.SetLaws.{isOuter, Optional, missing, there}
 use Rattle.text.proofs.Search.{find-end}
 use Rattle.segments.proofs.Pieces.{WholePart, whole-empty, whole-next, pieces-at, pieces-none, segments-at, segments-none, segments-rest, segments-part}
-use Rattle.frame.specs.Places.{part, endOf, segmentAt, inside, trailerAt, frameAt, frameOf}
+use Rattle.text.specs.Text.{part}
+use Rattle.frame.specs.Places.{endOf, segmentAt, inside, trailerAt, frameAt, frameOf}
 use Rattle.frame.specs.declared.Frame.{Frame}
 use Rattle.frame.specs.declared.Framed.{Framed}
 use Rattle.frame.specs.declared.Trailer.{Trailer}

@@ -12,12 +12,12 @@ use lib.Seq.{length-take-le, take-nil}
 use Rattle.rules.specs.Base.{Bytes, ascii, same, if_then_else_}
 use Rattle.rules.specs.Cutting.{isNamed, pieces, split}
 use Rattle.rules.specs.Refusals.{isEnvelope}
-use Rattle.text.specs.Text.{indexOf}
+use Rattle.text.specs.Text.{indexOf, part}
 use Rattle.text.proofs.Search.{find-le, find-end}
 use Rattle.segments.proofs.Pieces.{pieces-at, pieces-none}
 use Rattle.rules.specs.Groups.{isGE}
 use Rattle.rules.specs.declared.Delimiters.{Delimiters}
-use Rattle.frame.specs.Places.{part, endOf, segmentAt, inside, trailerAt, frameAt, frameOf}
+use Rattle.frame.specs.Places.{endOf, segmentAt, inside, trailerAt, frameAt, frameOf}
 use Rattle.frame.specs.declared.Framed.{Framed}
 use Rattle.frame.specs.declared.Framed.the-variants.{Whole, Broken}
 use Rattle.frame.specs.declared.Trailer.{Trailer}

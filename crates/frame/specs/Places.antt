@@ -1,23 +1,19 @@
 -- Where the parts of an interchange lie, as offsets.
-use Prim.Native.Nat.{ℕ, _+_, _-_}
+use Prim.Native.Nat.{ℕ, _+_}
 use mathlib.Core.Bool.{Bool, true, false, _&&_}
 use mathlib.Core.List.{List, [], _∷_}
 use lib.Dec.{leb}
-use lib.ListN.{length, take, drop}
+use lib.ListN.{length, drop}
 use Rattle.rules.specs.Base.{Bytes, ascii, member, if_then_else_}
 use Rattle.rules.specs.Cutting.{Segment, isNamed, pieces, split}
 use Rattle.rules.specs.Groups.{isGE}
 use Rattle.rules.specs.Refusals.{isEnvelope}
 use Rattle.rules.specs.declared.Delimiters.{Delimiters}
-use Rattle.text.specs.Text.{indexOf}
+use Rattle.text.specs.Text.{indexOf, part}
 use Rattle.frame.specs.declared.Frame.{Frame}
 use Rattle.frame.specs.declared.Framed.{Framed}
 use Rattle.frame.specs.declared.Framed.the-variants.{Whole, Broken}
 use Rattle.frame.specs.declared.Trailer.{Trailer}
-
--- the bytes from one offset up to another
-abbrev pub part : Bytes → ℕ → ℕ → Bytes
-part i at end = take (end - at) (drop at i)
 
 -- where the segment that starts at an offset ends
 abbrev pub endOf : Delimiters → Bytes → ℕ → ℕ

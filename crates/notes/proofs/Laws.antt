@@ -5,11 +5,12 @@ use mathlib.Core.List.{List, [], _∷_, _++_, map}
 use Prim.Native.Nat.{ℕ, _+_, _≤_}
 use native.Mathlib.Nat.{zero-add}
 use native.Mathlib.Omega.{arith}
+use lib.Dec.{eqb}
 use lib.ListN.{length, take}
 use Rattle.rules.specs.Base.{Bytes, Rule, _⇒_, every}
 use Rattle.rules.specs.Numbers.{decimal}
 use Rattle.text.specs.Text.{indexOf}
-use Rattle.text.proofs.Search.{index-le}
+use Rattle.text.proofs.Where.{index-le}
 use Rattle.tables.specs.Reading.{idBytes}
 use Rattle.tables.specs.declared.SegmentId.{SegmentId}
 use Rattle.tables.proofs.Numbers.{filled-take}
@@ -19,7 +20,7 @@ abbrev pub threeOf : SegmentId → Bytes
 threeOf i = i .first ∷ i .second ∷ i .third ∷ []
 
 pub id-end : (i : SegmentId) (end : ℕ) → end ≡ 0 + indexOf 0 (threeOf i) → end ≤ 3
-id-end i end e = let h = index-le 0 (threeOf i) in omega arith
+id-end i end e = let h = index-le (λ x. eqb x 0) (threeOf i) in omega arith
 
 pub id-is : (i : SegmentId) (end : ℕ) → end ≡ 0 + indexOf 0 (threeOf i) → take end (threeOf i) ≡ idBytes i
 unfolding idBytes

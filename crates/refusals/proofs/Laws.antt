@@ -12,7 +12,8 @@ use Rattle.rules.specs.Groups.{Group, groupOf}
 use Rattle.rules.specs.Refusals.{callRules, headRules, endRules, envelopeRules, trailerRules, groupRules, answerRules, setRules, refusal}
 use Rattle.rules.specs.declared.Delimiters.{Delimiters}
 use Rattle.rules.proofs.Facts.{firstOf, refusal-blocks}
-use Rattle.frame.specs.Places.{part, frameOf}
+use Rattle.text.specs.Text.{part}
+use Rattle.frame.specs.Places.{frameOf}
 use Rattle.frame.specs.declared.Frame.{Frame}
 use Rattle.frame.specs.declared.Framed.{Framed}
 use Rattle.frame.specs.declared.Framed.the-variants.{Whole, Broken}

@@ -11,11 +11,11 @@ use lib.ListN.{length, getD, take, drop, length-drop, take-append-drop}
 use lib.Seq.{drop-drop, getD-drop, take-all, take-suc}
 use Rattle.rules.specs.Base.{Bytes, all, if_then_else_}
 use Rattle.rules.specs.Damage.{free}
-use Rattle.text.specs.Text.{indexOf}
+use Rattle.text.specs.Text.{indexOf, indexWhere}
 use Rattle.text.proofs.Loops.{left-cons}
 
 index-free : (b : ℕ) (xs : Bytes) → free b (take (indexOf b xs) xs) ≡ true
-unfolding indexOf all
+unfolding indexWhere all
 index-free b [] = refl
 index-free b (x ∷ xs) = go (eqb x b) refl (index-free b xs)
   where
@@ -25,7 +25,7 @@ index-free b (x ∷ xs) = go (eqb x b) refl (index-free b xs)
     go false e h = rw e h
 
 index-hit : (b : ℕ) (xs : Bytes) → indexOf b xs < length xs → getD xs (indexOf b xs) 0 ≡ b
-unfolding indexOf
+unfolding indexWhere
 index-hit b [] h = absurd (not-suc-le-zero h)
 index-hit b (x ∷ xs) h = go (eqb x b) refl h (index-hit b xs)
   where

@@ -10,7 +10,7 @@ use lib.ListN.{length, getD, take, drop, drop-of-length-le}
 use lib.Seq.{drop-cons}
 use Rattle.rules.specs.Base.{Bytes, same, any, member, if_then_else_}
 use Rattle.rules.specs.Tables.{filled, idsIn}
-use Rattle.text.specs.Text.{indexOf}
+use Rattle.text.specs.Text.{indexOf, indexWhere}
 use Rattle.text.proofs.Loops.{left-cons}
 
 pub filled-end : (xs : List ℕ) (i : ℕ) → getD xs i 0 ≡ 0 → filled (drop i xs) ≡ []
@@ -56,7 +56,7 @@ module _ (xs : List ℕ) (bytes : Bytes) (i : ℕ) where
 
 -- the numbers before the first 0 are those up to its place
 pub filled-take : (xs : List ℕ) → take (indexOf 0 xs) xs ≡ filled xs
-unfolding filled indexOf
+unfolding filled indexWhere
 filled-take [] = refl
 filled-take (x ∷ xs) = go (eqb x 0) (filled-take xs)
   where

@@ -1,35 +1,31 @@
 -- The search for a byte: one turn of it, and where it ends.
-use Prim.Native.Nat.{ℕ, suc, _+_, _<_, _≤_, suc-le-suc}
-use mathlib.Core.Path.{_≡_, refl, sym, ap, _∙_}
-use mathlib.Core.Bool.{Bool, true, false}
+use Prim.Native.Nat.{ℕ, _+_, _<_, _≤_}
+use mathlib.Core.Path.{_≡_, sym, ap, _∙_}
+use mathlib.Core.Bool.{false}
 use mathlib.Core.List.{[], _∷_, _++_}
-use native.Mathlib.Nat.{add-zero}
 use native.Mathlib.Omega.{arith}
 use borrow.Author.Tests.{eq-eqb, ne-eqb}
 use lib.Dec.{eqb}
-use lib.ListN.{length, getD, take, drop, drop-of-length-le, length-drop, take-append-drop}
+use lib.ListN.{length, getD, take, drop, length-drop, take-append-drop}
 use lib.Seq.{drop-drop, length-take-le}
-use Rattle.rules.specs.Base.{Bytes, any, if_then_else_}
+use Rattle.rules.specs.Base.{Bytes, any}
 use Rattle.rules.proofs.Logic.{or-left, or-right}
-use Rattle.text.specs.Text.{indexOf}
-use Rattle.text.proofs.Loops.{left-cons}
+use Rattle.text.specs.Text.{indexOf, indexWhere}
+use Rattle.text.proofs.Where.{next-here, next-later, next-none, next-within}
 
 module _ (b : ℕ) (s : Bytes) (i : ℕ) where
   pub index-here : i < length s → getD s i 0 ≡ b → i + indexOf b (drop i s) ≡ i
-  unfolding indexOf
-  index-here h e = rw (left-cons s i h, eq-eqb (getD s i 0) b e, add-zero)
+  index-here h e = next-here (λ x. eqb x b) s 0 i h (eq-eqb (getD s i 0) b e)
 
   pub index-later : i < length s → (getD s i 0 ≡ b → ⊥) → i + indexOf b (drop i s) ≡ i + 1 + indexOf b (drop (i + 1) s)
-  unfolding indexOf
-  index-later h e = rw (left-cons s i h, ne-eqb (getD s i 0) b e) (omega arith)
+  index-later h e = next-later (λ x. eqb x b) s 0 i h (ne-eqb (getD s i 0) b e)
 
   pub index-none : length s ≤ i → i + indexOf b (drop i s) ≡ i
-  unfolding indexOf
-  index-none h = rw (drop-of-length-le s {i = i} h, add-zero)
+  index-none h = next-none (λ x. eqb x b) s 0 i h
 
 -- bytes without a b are passed over
 pub index-over : (b : ℕ) (xs ys : Bytes) → any (λ x. eqb x b) xs ≡ false → indexOf b (xs ++ ys) ≡ length xs + indexOf b ys
-unfolding indexOf any
+unfolding indexWhere any
 index-over b [] ys e = omega arith
 index-over b (x ∷ xs) ys e =
     let o = or-left (eqb x b) (any (λ y. eqb y b) xs) e in
@@ -44,17 +40,8 @@ index-past b s i n h e =
     sym (ap (indexOf b) (take-append-drop n (drop i s))) ∙ index-over b (take n (drop i s)) (drop n (drop i s)) e ∙ rw (l, drop-drop n i s) in
     omega arith
 
-pub index-le : (b : ℕ) (xs : Bytes) → indexOf b xs ≤ length xs
-unfolding indexOf
-index-le b [] = omega arith
-index-le b (x ∷ xs) = go (eqb x b) (index-le b xs)
-  where
-    go : (q : Bool) → indexOf b xs ≤ length xs → (if q then 0 else suc (indexOf b xs)) ≤ suc (length xs)
-    go true h = omega arith
-    go false h = suc-le-suc h
-
 pub find-le : (b : ℕ) (s : Bytes) (i : ℕ) → i ≤ length s → i + indexOf b (drop i s) ≤ length s
-find-le b s i h = omega (arith, index-le b (drop i s), length-drop i s)
+find-le b s i h = next-within (λ x. eqb x b) s i h
 
 -- the same from what `find` ensures and what a loop's test says
 pub find-end : (b : ℕ) (s : Bytes) (i r : ℕ) → r ≡ i + indexOf b (drop i s) → i < length s → r ≤ length s

@@ -1,14 +1,14 @@
 // Leaves on bytes: searching, comparing, digits and the numbers that they stand for, dates, times, valid bytes.
 ghost use mathlib.Core.Path.{_≡_};
 ghost use mathlib.Core.Bool.{_||_};
-ghost use Prim.Native.Nat.{_+_, _-_, _≤_};
+ghost use Prim.Native.Nat.{_+_, _≤_};
 ghost use lib.Dec.{eqb};
 ghost use lib.ListN.{length, take, drop};
 ghost use Rattle.rules.specs.Base.{between, isDigit, isUpper, isUpperOrDigit, same, all, any};
 ghost use Rattle.rules.specs.Cutting.{valid, text};
 ghost use Rattle.rules.specs.Numbers.{digits, isDay, isDate, isTime};
 ghost use Rattle.rules.specs.Elements as elements;
-ghost use Rattle.text.specs.Text.{indexOf, nextWhere, invalid, upToTen};
+ghost use Rattle.text.specs.Text.{indexOf, nextWhere, part, invalid, upToTen};
 use rules::Delimiters;
 
 // The place of the first b from `from` on; the length where there is none, and `from` where that is past the end.
@@ -57,7 +57,7 @@ pub fn find(s: &[u8], from: usize, b: u8) -> usize
 
 // The bytes from `from` up to `to`, those that there are.
 pub fn part(s: &[u8], from: usize, to: usize) -> &[u8]
-    ensures { λ r. ⌜ now r ≡ take (to - from) (drop from (now (s .entry))) ⌝ }
+    ensures { λ r. ⌜ now r ≡ part (now (s .entry)) from to ⌝ }
 {
     if s.len() <= from {
         return &s[0..0];

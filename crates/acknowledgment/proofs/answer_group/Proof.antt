@@ -1,6 +1,6 @@
 -- `acknowledgment::answer_group` meets its contract: in each arm the rows are the table that the group's edition has.
 use Rattle.rules.specs.Cutting.{split}
-use Rattle.frame.specs.Places.{part}
+use Rattle.text.specs.Text.{part}
 use Rattle.acknowledgment.proofs.Answering.{Headed, headed, by-006010, by-004010, by-none, answerable, allowed}
 use borrow.Author.Needs.{needs}
 use Rattle.acknowledgment.proofs.answer_group.Statement.{statement}
