@@ -11,7 +11,7 @@ use lib.Dec.{eqb}
 use lib.ListN.{length, take, drop, getD, set, replicate, length-set}
 use lib.Seq.{take-suc-set, take-set-le, getD-set-same, getD-set-other}
 use Rattle.rules.specs.Base.{Bytes, keep, if_then_else_}
-use Rattle.rules.specs.Cutting.{segments}
+use Rattle.rules.specs.Cutting.{Segment, field, split, segments}
 use Rattle.rules.specs.Tables.{Table}
 use Rattle.rules.specs.Sets.{Set, SetReport, setsOf, stray, accepted}
 use Rattle.rules.specs.Groups.{acceptedIn}
@@ -19,6 +19,7 @@ use Rattle.rules.specs.Response.{block}
 use Rattle.rules.specs.declared.Delimiters.{Delimiters}
 use Rattle.rules.proofs.Lengths.{either}
 use Rattle.rules.proofs.Facts.{reports-count}
+use Rattle.text.specs.Text.{part}
 use Rattle.tables.specs.Reading.{Guide}
 use Rattle.segments.proofs.Pieces.{segments-none}
 use Rattle.sets.specs.Places.{setAt, controlAt, controlsAt}
@@ -57,6 +58,12 @@ module _ {d : Delimiters} {body : Bytes} {starts links : List ℕ} {k at : ℕ} 
     stored = refl;
     entered = entered-next e (omega (arith, room .number)) (room .start) (room .link) at r searched;
   }
+
+-- the number that is read of a set's header
+pub control-here : {d : Delimiters} {body st control : Bytes} {at : ℕ} {r : SetAt} → SetIs d body at r
+    → st ≡ part body at (r .header) → control ≡ field (split (d .element) st) 2 → control ≡ controlAt d body at
+control-here {d} is p f =
+    f ∙ ap (λ (st : Bytes). field (split (d .element) st) 2) p ∙ ap (λ (st : Segment). field st 2) (sym (is .header)) ∙ is .control
 
 -- 2. The loop.
 -- one more where the first is accepted

@@ -14,7 +14,7 @@ ghost use Rattle.tables.specs.Reading.{Limits};
 ghost use Rattle.guides.specs.Encoded.{directoryRows};
 ghost use Rattle.text.specs.Text.{part};
 ghost use Rattle.frame.proofs.Laws.{FrameIs};
-ghost use Rattle.sets.specs.Places.{setAt};
+ghost use Rattle.sets.specs.Places.{setAt, controlAt};
 ghost use Rattle.sets.proofs.Sets.{SetIs};
 ghost use Rattle.register.proofs.Entered.{Entered};
 ghost use Rattle.verdicts.specs.Verdicts.{trailerIf};
@@ -68,7 +68,7 @@ struct Caller {
     control: u32,
 }
 
-// Whether a set before the one at `at`, which is set k, has its ST02. The set is entered for those after it.
+// Whether a set before the one at `at`, which is set k, has its ST02, `control`. The set is entered for those after it.
 fn enter(
     body: &[u8],
     d: Delimiters,
@@ -76,12 +76,13 @@ fn enter(
     links: &mut [u16],
     k: usize,
     at: usize,
+    control: &[u8],
 ) -> bool
-    requires { ⌜ (Entered d (now body) (now starts) (now links) k) × Room (now starts) (now links) k at ⌝ }
+    requires { ⌜ (Entered d (now body) (now starts) (now links) k) × ((Room (now starts) (now links) k at) × (now control ≡ controlAt d (now body) at)) ⌝ }
     ensures { λ r. ⌜ EnteredNext d (now (body .entry)) (now (starts .entry)) k at r (now (starts .exit)) (now (links .exit)) ⌝ }
 {
     starts[k] = at as u16;
-    match register::search(body, d, starts, links, sets::control_at(body, d, at)) {
+    match register::search(body, d, starts, links, control) {
         Found::Repeated => true,
         Found::Free(slot) => {
             links[slot] = (k + 1) as u16;
@@ -190,14 +191,14 @@ fn put_rejected(
     body: &[u8],
     d: Delimiters,
     at: usize,
+    place: SetAt,
     guide: &[[u16; 6]],
     known: bool,
     repeated: bool,
 ) -> Told
-    requires { ⌜ (SetIs d (now body) at (setAt d (now body) at)) × Limits (now guide) ⌝ }
+    requires { ⌜ (place ≡ setAt d (now body) at) × ((SetIs d (now body) at place) × Limits (now guide)) ⌝ }
     ensures { λ r. ⌜ ((earlier : List Bytes) → repeated ≡ member (controlOf (setHere d (now (body .entry)) at)) earlier → Tells d (text.block (reportAt d (tableWith known (now (guide .entry))) (now (body .entry)) at earlier)) r (now (out .entry)) (now (out .exit))) ⌝ }
 {
-    let place = sets::next_set(body, d, at);
     let set = text::part(body, at, place.end);
     let header = text::part(body, at, place.header);
     let trailer = text::part(body, place.trailer, place.end - 1);
@@ -239,7 +240,8 @@ fn put_block(
     if mark == ACCEPTED {
         return put_accepted(out, body, d, at);
     }
-    put_rejected(out, body, d, at, guide, known, mark == REPEATED)
+    let place = sets::next_set(body, d, at);
+    put_rejected(out, body, d, at, place, guide, known, mark == REPEATED)
 }
 
 // What the block of the set at a place comes to. That of an accepted set has two segments; any other is measured on an empty part.
@@ -270,6 +272,7 @@ fn measure_block(
         body,
         d,
         at,
+        place,
         guide,
         known,
         mark == REPEATED,
@@ -296,7 +299,9 @@ fn survey_sets(
     let mut at = 0;
     while at < body.len() {
         let place = sets::next_set(body, d, at);
-        let repeated = enter(body, d, starts, &mut links, sets, at);
+        let header = text::part(body, at, place.header);
+        let control = segments::field(header, d.element, 2);
+        let repeated = enter(body, d, starts, &mut links, sets, at, control);
         let mark = mark_of(body, d, at, place, guide, known, repeated);
         marks[sets] = mark;
         let told = measure_block(body, d, at, place, mark, guide, known);

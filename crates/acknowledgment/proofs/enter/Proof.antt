@@ -5,21 +5,23 @@ use borrow.Author.Needs.{needs}
 use Rattle.acknowledgment.proofs.enter.Statement.{statement}
 use Rattle.acknowledgment.proofs.enter.Tie as tie
 
-mul-links : tie.Need-mul-links
-mul-links c =
-    omega (arith, slot-inside (c .before .before .before .before .before .before .before .before .before .before .pre .0) (c .before .before .before .before .before .before .before .before .before .before .pre .1) (c .before .before .before .before .control-at .ensures) (c .before .before .before .search .ensures) (c .before .slot .given .1))
-
 slice-write-links : tie.Need-slice-write-links
 slice-write-links c =
-    slot-inside (c .before .before .before .before .before .before .before .before .before .before .pre .0) (c .before .before .before .before .before .before .before .before .before .before .pre .1) (c .before .before .before .before .control-at .ensures) (c .before .before .before .search .ensures) (c .before .slot .given .1)
+    let entry = c .before .before .before .before .before .before .before .before .before .before .pre in
+    slot-inside (entry .0) (entry .1 .0) (entry .1 .1) (c .before .before .before .search .ensures) (c .before .slot .given .1)
+
+mul-links : tie.Need-mul-links
+mul-links c = omega (arith, slice-write-links c)
 
 returns : tie.Need-returns
 returns c =
-    rw (c .enum-told .given .1) at (entered-so (c .before .before .before .before .before .before .before .before .before .pre .0) (c .before .before .before .before .before .before .before .before .before .pre .1) (c .before .before .before .control-at .ensures) (c .before .before .search .ensures))
+    let entry = c .before .before .before .before .before .before .before .before .before .pre in
+    rw (c .enum-told .given .1) at (entered-so (entry .0) (entry .1 .0) (entry .1 .1) (c .before .before .search .ensures))
 
 returns-2 : tie.Need-returns-2
 returns-2 c =
-    rw (c .before .slot .given .1) at (entered-so (c .before .before .before .before .before .before .before .before .before .before .pre .0) (c .before .before .before .before .before .before .before .before .before .before .pre .1) (c .before .before .before .before .control-at .ensures) (c .before .before .before .search .ensures))
+    let entry = c .before .before .before .before .before .before .before .before .before .before .pre in
+    rw (c .before .slot .given .1) at (entered-so (entry .0) (entry .1 .0) (entry .1 .1) (c .before .before .before .search .ensures))
 
 pub enter-spec : {M : Type 1} → statement M
 enter-spec =
@@ -28,7 +30,6 @@ enter-spec =
     (λ c. search needs)
     (λ c. search needs)
     (λ c. search needs)
-    (λ c κs. search needs)
     (λ c κs. search needs)
     (λ c. search needs)
     (λ c. search needs)

@@ -15,7 +15,7 @@ returns c =
     (acceptance-measured (entry .pre .1 .0) (header .part .ensures) (c .before .before .before .field .ensures) (c .before .before .field2 .ensures) (c .before .joined .ensures) (c .joined2 .ensures))
 
 put-rejected-requires : tie.Need-put-rejected-requires
-put-rejected-requires c κs = let entry = c .before .before .before in (rw (entry .pre .0) at (entry .pre .1 .0), entry .pre .1 .1)
+put-rejected-requires c κs = search needs
 
 returns-2 : tie.Need-returns-2
 returns-2 c = λ earlier m. measures (c .before .put-rejected .ensures earlier (mark-repeats _ _ m))

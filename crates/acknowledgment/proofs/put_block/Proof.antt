@@ -13,8 +13,14 @@ same-length c = search needs
 returns : tie.Need-returns
 returns c = λ earlier m. rw (mark-block _ _ _ _ earlier m (c .before .before .before .before .if1 .taken)) (c .before .before .put-accepted .ensures)
 
+next-set-requires : tie.Need-next-set-requires
+next-set-requires c κs = search needs
+
 put-rejected-requires : tie.Need-put-rejected-requires
-put-rejected-requires c κs = search needs
+put-rejected-requires c κs =
+    let place = c .before in
+    let set = place .before .before .before .before .pre .1 in
+    (place .next-set .ensures, (rw (← place .next-set .ensures) at (set .0), set .1))
 
 same-length-2 : tie.Need-same-length-2
 same-length-2 c = search needs
@@ -29,6 +35,7 @@ put-block-spec =
     put-accepted-requires
     same-length
     returns
+    next-set-requires
     put-rejected-requires
     same-length-2
     returns-2)

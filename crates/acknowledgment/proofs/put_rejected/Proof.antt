@@ -8,7 +8,7 @@ use Rattle.acknowledgment.proofs.put_rejected.Statement.{statement}
 use Rattle.acknowledgment.proofs.put_rejected.Tie as tie
 
 sub-part : tie.Need-sub-part
-sub-part c = let on = rw (← c .before .before .before .next-set .ensures) at (c .before .before .before .before .before .before .pre .0 .onward) in omega arith
+sub-part c = let on = c .before .before .before .before .before .pre .1 .0 .onward in omega arith
 
 part-add-ak5-end : tie.Need-part-add-ak5-end
 part-add-ak5-end c =
@@ -26,14 +26,13 @@ returns c =
     let trailer = test .before .before in
     let header = trailer .before .before in
     let set = header .before in
-    let place = set .before in
-    let entry = place .before .before .before in
-    let at-place = place .next-set .ensures in
+    let entry = set .before .before .before in
+    let at-place = entry .pre .0 in
     λ earlier k.
     rw (← at-place)
     (block-of
-    (parts-at (rw (← at-place) at (entry .pre .0)) (omega (arith, entry .good .1 .0)) (set .part .ensures) (header .part2 .ensures) (trailer .part3 .ensures))
-    (entry .pre .1)
+    (parts-at (entry .pre .1 .0) (omega (arith, entry .good .1 .0)) (set .part .ensures) (header .part2 .ensures) (trailer .part3 .ensures))
+    (entry .pre .1 .1)
     (entry .args .known)
     earlier
     (rw (test .is-load-response .ensures, test .before .field .ensures))
@@ -48,7 +47,6 @@ pub put-rejected-spec : {M : Type 1} → statement M
 put-rejected-spec =
     tie.close
     (tie.spec
-    (λ c κs. search needs)
     (λ c κs. search needs)
     (λ c κs. search needs)
     sub-part

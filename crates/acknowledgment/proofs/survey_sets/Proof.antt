@@ -7,7 +7,7 @@ use lib.ListN.{length, length-replicate}
 use Rattle.sets.proofs.Sets.{SetIs}
 use Rattle.acknowledgment.specs.Writers.{tableWith}
 use Rattle.acknowledgment.specs.Surveys.{reports}
-use Rattle.acknowledgment.proofs.Surveys.{zeros-at, Seeing, seeing-start, seeing-set, seeing-room, seeing-enter, seeing-measured, seeing-turn, seeing-end}
+use Rattle.acknowledgment.proofs.Surveys.{zeros-at, control-here, Seeing, seeing-start, seeing-set, seeing-room, seeing-enter, seeing-measured, seeing-turn, seeing-end}
 use Rattle.acknowledgment.proofs.Turns.{Sofar, sofar-start}
 use native.Mathlib.Omega.{arith}
 use borrow.Author.Needs.{needs}
@@ -39,32 +39,35 @@ room : (c : tie.After-next-set Inv-loop μ-loop) → c .before .before .loop .se
 room c = seeing-room (c .before .before .loop .inv .0) (set c)
 
 enter-requires : tie.Need-enter-requires Inv-loop μ-loop
-enter-requires c κs = seeing-enter (c .before .before .before .before .loop .inv .0) (c .before .before .before .loop-test .taken) (c .before .before .before .before .before .before .before .before .pre .short)
+enter-requires c κs =
+    let place = c .before .before .before .before in
+    let ready = seeing-enter (place .before .before .loop .inv .0) (place .before .loop-test .taken) (place .before .before .before .before .before .before .pre .short) in
+    (ready .0, (ready .1, control-here (set place) (c .before .before .before .part .ensures) (c .before .before .field .ensures)))
 
 mark-of-requires : tie.Need-mark-of-requires Inv-loop μ-loop
-mark-of-requires c κs = (c .before .before .before .before .before .before .next-set .ensures, (set (c .before .before .before .before .before .before), c .before .before .before .before .before .before .before .before .before .before .before .before .pre .limits))
+mark-of-requires c κs = let place = c .before .before .before .before .before .before .before .before in (place .next-set .ensures, (set place, place .before .before .before .before .before .before .pre .limits))
 
 slice-write-marks : tie.Need-slice-write-marks Inv-loop μ-loop
-slice-write-marks c = omega (arith, room (c .before .before .before .before .before .before .before))
+slice-write-marks c = omega (arith, room (c .before .before .before .before .before .before .before .before .before))
 
 measure-block-requires : tie.Need-measure-block-requires Inv-loop μ-loop
-measure-block-requires c κs = let place = c .before .before .before .before .before .before .before in (place .next-set .ensures, (set place, place .before .before .before .before .before .before .pre .limits))
+measure-block-requires c κs = let place = c .before .before .before .before .before .before .before .before .before in (place .next-set .ensures, (set place, place .before .before .before .before .before .before .pre .limits))
 
 add-accepted : tie.Need-add-accepted Inv-loop μ-loop
-add-accepted c = omega (arith, room (c .before .before .before .before .before .before .before .before .before .before .before))
+add-accepted c = let place = c .before .before .before .before .before .before .before .before .before .before .before .before .before in omega (arith, room place, place .before .before .loop .inv .0 .among)
 
 add-sets : tie.Need-add-sets Inv-loop μ-loop
-add-sets c = omega (arith, room (c .before .before .before .before .before .before .before .before .before .before .before))
+add-sets c = omega (arith, room (c .before .before .before .before .before .before .before .before .before .before .before .before .before))
 
 loop-less : tie.Need-loop-less Inv-loop μ-loop
-loop-less c = omega (arith, set (c .before .before .before .before .before .before .before .before .before .before .before) .onward)
+loop-less c = omega (arith, set (c .before .before .before .before .before .before .before .before .before .before .before .before .before) .onward)
 
 loop-again : tie.Need-loop-again Inv-loop μ-loop
 loop-again c =
     let told = c .before .before .before in
     let mark = told .before in
     let entered = mark .before .before .before .before in
-    let place = entered .before .before .before in
+    let place = entered .before .before .before .before .before in
     let sofar = place .before .before .loop .inv in
     let inside = place .before .loop-test .taken in (
       rw (place .next-set .ensures)
@@ -83,6 +86,8 @@ survey-sets-spec =
     Inv-loop
     μ-loop
     loop-holds
+    (λ c κs. search needs)
+    (λ c κs. search needs)
     (λ c κs. search needs)
     (λ c. search needs)
     enter-requires
