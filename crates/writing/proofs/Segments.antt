@@ -30,6 +30,11 @@ fields-append d (f ∷ fs) gs =
 pub field : (d : Delimiters) {f o o₁ o₂ : Bytes} {n m r : ℕ} → From n (d .element ∷ []) m o o₁ → From m f r o₁ o₂ → From n (fieldsOut d (f ∷ [])) r o o₂
 field d {f} a b = said (field-out d f) (seq a b)
 
+-- elements after elements
+pub also : (d : Delimiters) (fs gs : Segment) {o o₁ o₂ : Bytes} {n m r : ℕ}
+    → From n (fieldsOut d fs) m o o₁ → From m (fieldsOut d gs) r o₁ o₂ → From n (fieldsOut d (fs ++ gs)) r o o₂
+also d fs gs a b = said (fields-append d fs gs) (seq a b)
+
 -- 2. A segment: its id, elements, and the terminator.
 -- A piece wrote, after s bytes, its id and then the elements fs: it has come to n, and leaves o as o′.
 pub record Begun (s : ℕ) (d : Delimiters) (id : Bytes) (fs : Segment) (n : ℕ) (o o′ : Bytes) : Type 0 where
