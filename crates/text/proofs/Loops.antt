@@ -7,7 +7,7 @@ use native.Mathlib.Numerals.{add-one}
 use native.Mathlib.Omega.{arith}
 use lib.Dec.{eqb}
 use lib.ListN.{length, getD, take, drop, drop-of-length-le, take-append-drop, length-drop}
-use lib.Seq.{drop-cons, take-suc, getD-drop}
+use lib.Seq.{drop-cons, take-suc, take-add, drop-drop, getD-drop}
 use Rattle.rules.specs.Base.{Bytes, same, all, any}
 use Rattle.rules.proofs.Logic.{all-left, all-right}
 
@@ -54,7 +54,7 @@ module _ {A : Type 0} (p : A → Bool) (xs : List A) (k : ℕ) (h : length xs �
   unfolding any
   any-end = rw (drop-of-length-le xs {i = k} h)
 
--- any of a run of elements that is one longer
+-- any of a run of elements that is one longer, and of two runs
 module _ {A : Type 0} (p : A → Bool) where
   pub any-append : (xs ys : List A) → any p (xs ++ ys) ≡ any p xs || any p ys
   unfolding any
@@ -65,6 +65,9 @@ module _ {A : Type 0} (p : A → Bool) where
   unfolding any
   any-more xs d i n h =
       rw (take-suc (drop i xs) n d (omega (arith, length-drop i xs)), any-append (take n (drop i xs)), getD-drop i xs n d, or-false (p (getD xs (i + n) d)))
+
+  pub any-runs : (xs : List A) (i n m : ℕ) → any p (take (n + m) (drop i xs)) ≡ any p (take n (drop i xs)) || any p (take m (drop (i + n) xs))
+  any-runs xs i n m = rw (take-add n m (drop i xs), any-append (take n (drop i xs)), drop-drop n i xs)
 
 -- what all pass, all of a part pass
 module _ {A : Type 0} (p : A → Bool) (k : ℕ) (xs : List A) (e : all p xs ≡ true) where

@@ -26,19 +26,20 @@ pub fn find_near(s: &[u8], from: usize, b: u8) -> usize
     i
 }
 
-// One of the eight bytes from i on is b; none is left uncompared, so that a machine can compare them at once.
+// One of the four bytes from i on is b; none is left uncompared, so that a machine can compare them at once.
+fn is_in_four(s: &[u8], i: usize, b: u8) -> bool
+    requires { ⌜ i + 4 ≤ length (now s) ⌝ }
+    ensures { λ r. ⌜ r ≡ any (λ x. eqb x b) (take 4 (drop i (now (s .entry)))) ⌝ }
+{
+    (s[i] == b) | (s[i + 1] == b) | (s[i + 2] == b) | (s[i + 3] == b)
+}
+
+// One of the eight bytes from i on is b, compared likewise.
 fn is_in_eight(s: &[u8], i: usize, b: u8) -> bool
     requires { ⌜ i + 8 ≤ length (now s) ⌝ }
     ensures { λ r. ⌜ r ≡ any (λ x. eqb x b) (take 8 (drop i (now (s .entry)))) ⌝ }
 {
-    (s[i] == b)
-        | (s[i + 1] == b)
-        | (s[i + 2] == b)
-        | (s[i + 3] == b)
-        | (s[i + 4] == b)
-        | (s[i + 5] == b)
-        | (s[i + 6] == b)
-        | (s[i + 7] == b)
+    is_in_four(s, i, b) | is_in_four(s, i + 4, b)
 }
 
 // The same, eight bytes a turn: b is far, as the end of a segment is.

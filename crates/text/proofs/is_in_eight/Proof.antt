@@ -1,93 +1,15 @@
 -- `text::is_in_eight` meets its contract.
 use mathlib.Core.Path.{sym}
-use native.Mathlib.Nat.{add-zero}
-use native.Mathlib.Omega.{arith}
 use lib.Dec.{eqb}
-use Rattle.rules.specs.Base.{any}
-use Rattle.text.proofs.Loops.{any-more}
+use Rattle.text.proofs.Loops.{any-runs}
 use borrow.Author.Needs.{needs}
 use Rattle.text.proofs.is_in_eight.Statement.{statement}
 use Rattle.text.proofs.is_in_eight.Tie as tie
 
-shared-slice-read-result : tie.Need-shared-slice-read-result
-shared-slice-read-result c = search needs
-
-add-result : tie.Need-add-result
-add-result c = search needs
-
-shared-slice-read-result-2 : tie.Need-shared-slice-read-result-2
-shared-slice-read-result-2 c = search needs
-
-add-result-2 : tie.Need-add-result-2
-add-result-2 c = search needs
-
-shared-slice-read-result-3 : tie.Need-shared-slice-read-result-3
-shared-slice-read-result-3 c = search needs
-
-add-result-3 : tie.Need-add-result-3
-add-result-3 c = search needs
-
-shared-slice-read-result-4 : tie.Need-shared-slice-read-result-4
-shared-slice-read-result-4 c = search needs
-
-add-result-4 : tie.Need-add-result-4
-add-result-4 c = search needs
-
-shared-slice-read-result-5 : tie.Need-shared-slice-read-result-5
-shared-slice-read-result-5 c = search needs
-
-add-result-5 : tie.Need-add-result-5
-add-result-5 c = search needs
-
-shared-slice-read-result-6 : tie.Need-shared-slice-read-result-6
-shared-slice-read-result-6 c = search needs
-
-add-result-6 : tie.Need-add-result-6
-add-result-6 c = search needs
-
-shared-slice-read-result-7 : tie.Need-shared-slice-read-result-7
-shared-slice-read-result-7 c = search needs
-
-add-result-7 : tie.Need-add-result-7
-add-result-7 c = search needs
-
-shared-slice-read-result-8 : tie.Need-shared-slice-read-result-8
-shared-slice-read-result-8 c = search needs
-
 returns : tie.Need-returns
-unfolding any
 returns c =
-    let a = c .before .before .before .before .before .before .before .before .args in
-    let more = any-more (λ x. eqb x (a .b)) (a .s .now) 0 (a .i) in
-    sym (rw (
-      more 7 (omega arith),
-      more 6 (omega arith),
-      more 5 (omega arith),
-      more 4 (omega arith),
-      more 3 (omega arith),
-      more 2 (omega arith),
-      more 1 (omega arith),
-      more 0 (omega arith),
-      add-zero,
-    ))
+    let a = c .before .before .before .args in
+    rw (c .is-in-four2 .ensures, c .before .is-in-four .ensures) (sym (any-runs (λ x. eqb x (a .b)) (a .s .now) (a .i) 4 4))
 
 pub is-in-eight-spec : {M : Type 1} → statement M
-is-in-eight-spec =
-    tie.close
-    (tie.spec
-    shared-slice-read-result
-    add-result
-    shared-slice-read-result-2
-    add-result-2
-    shared-slice-read-result-3
-    add-result-3
-    shared-slice-read-result-4
-    add-result-4
-    shared-slice-read-result-5
-    add-result-5
-    shared-slice-read-result-6
-    add-result-6
-    shared-slice-read-result-7
-    add-result-7
-    shared-slice-read-result-8
-    returns)
+is-in-eight-spec = tie.close (tie.spec (λ c κs. search needs) (λ c. search needs) (λ c κs. search needs) returns)
