@@ -46,7 +46,6 @@ use Rattle.headers.proofs.answer_refusal.Reads as headers-answer-refusal
 use Rattle.sets.proofs.next_set.Reads as sets-next-set
 use Rattle.text.proofs.part.Reads as text-part
 use Rattle.sets.proofs.set_refusal.Reads as sets-set-refusal
-use Rattle.sets.proofs.control_at.Reads as sets-control-at
 use Rattle.register.proofs.search.Reads as register-search
 use Rattle.refusals.proofs.check.Reads as refusals-check
 use Rattle.verdicts.proofs.Codes.is_empty.Reads as verdicts-Codes-is-empty
@@ -246,9 +245,6 @@ text-part-once κs a r₁ r₂ s₁ s₂ p q = p ∙ sym q
 
 sets-set-refusal-once : Once sets-set-refusal.Post (λ κs r s. r)
 sets-set-refusal-once κs a r₁ r₂ s₁ s₂ p q = p ∙ sym q
-
-sets-control-at-once : Once sets-control-at.Post (λ κs r s. now r)
-sets-control-at-once κs a r₁ r₂ s₁ s₂ p q = p ∙ sym q
 
 -- register
 register-search-once : Once register-search.Post (λ κs r s. r)

@@ -1,6 +1,9 @@
 // The control numbers of a group's sets in buckets, each a tree, so that a number used twice is looked for among few.
 ghost use mathlib.Core.Path.{_≡_};
-ghost use lib.ListN.{getD};
+ghost use Prim.Native.Nat.{ℕ, suc, _+_, _≤_};
+ghost use lib.ListN.{length, getD, drop};
+ghost use Rattle.sets.specs.Places.{controlAt};
+ghost use Rattle.register.specs.Fields.{fieldIn};
 ghost use Rattle.register.specs.Trees as trees;
 ghost use Rattle.register.specs.Trees.{bucketOf, bitAt};
 use rules::Delimiters;
@@ -27,6 +30,49 @@ fn bucket_of(control: &[u8]) -> usize
     n as usize
 }
 
+// Where the next field of a segment starts, one past the next separator; the end where there is none.
+fn next_field(body: &[u8], d: Delimiters, at: usize) -> usize
+    ensures { λ r. ⌜ (r ≤ length (now (body .entry))) × ((n : ℕ) → fieldIn d (suc n) (drop at (now (body .entry))) ≡ fieldIn d n (drop r (now (body .entry)))) ⌝ }
+{
+    let mut i = at;
+    while i < body.len() {
+        let b = body[i];
+        if b == d.terminator {
+            break;
+        }
+        i += 1;
+        if b == d.element {
+            return i;
+        }
+    }
+    body.len()
+}
+
+// Where ST02 of the header at `at` starts.
+fn control_start(body: &[u8], d: Delimiters, at: usize) -> usize
+    ensures { λ r. ⌜ (r ≤ length (now (body .entry))) × (controlAt d (now (body .entry)) at ≡ fieldIn d 0 (drop r (now (body .entry)))) ⌝ }
+{
+    next_field(body, d, next_field(body, d, at))
+}
+
+// Where the field that starts at `at` ends.
+fn field_end(body: &[u8], d: Delimiters, at: usize) -> usize
+    ensures { λ r. ⌜ r ≡ at + length (fieldIn d 0 (drop at (now (body .entry)))) ⌝ }
+{
+    let mut i = at;
+    while i < body.len() {
+        let b = body[i];
+        if b == d.terminator {
+            return i;
+        }
+        if b == d.element {
+            return i;
+        }
+        i += 1;
+    }
+    i
+}
+
 // Looks for a set with the ST02 `control`, in the tree of its bucket: from each set its next bit leads to one of two after it.
 pub fn search(body: &[u8], d: Delimiters, starts: &[u16], links: &[u16], control: &[u8]) -> Found
     ensures { λ r. ⌜ r ≡ trees.search d (now (body .entry)) (now (starts .entry)) (now (links .entry)) (now (control .entry)) ⌝ }
@@ -42,19 +88,23 @@ pub fn search(body: &[u8], d: Delimiters, starts: &[u16], links: &[u16], control
             break 'sets;
         }
         let k = link - 1;
-        let earlier = sets::control_at(body, d, start_at(starts, k));
+        let start = control_start(body, d, start_at(starts, k));
         slot = BUCKETS + 2 * k + bit_at(control, i);
         last = link;
         i += 1;
-        if earlier.len() != control.len() {
+        if body.len() - start < control.len() {
             continue 'sets;
         }
-        let mut j = 0;
-        while j < control.len() {
-            if control[j] != earlier[j] {
+        // The last bytes come first, since the numbers of a tree begin alike.
+        let mut j = control.len();
+        while 0 < j {
+            j -= 1;
+            if body[start + j] != control[j] {
                 continue 'sets;
             }
-            j += 1;
+        }
+        if field_end(body, d, start) != start + control.len() {
+            continue 'sets;
         }
         break 'sets;
     }

@@ -2,7 +2,7 @@
 ghost use mathlib.Core.Path.{_≡_};
 ghost use Rattle.rules.specs.Cutting as cutting;
 ghost use Rattle.rules.specs.Refusals.{goodST};
-ghost use Rattle.sets.specs.Places.{closedAt, unclosedAt, setAt, controlAt};
+ghost use Rattle.sets.specs.Places.{closedAt, unclosedAt, setAt};
 ghost use Rattle.sets.specs.Groups.{setRefusal};
 use rules::Delimiters;
 
@@ -100,12 +100,4 @@ pub fn set_refusal(body: &[u8], d: Delimiters) -> u8
         }
     }
     refusal
-}
-
-// ST02 of the header that starts at `at`.
-pub fn control_at(body: &[u8], d: Delimiters, at: usize) -> &[u8]
-    ensures { λ r. ⌜ now r ≡ controlAt d (now (body .entry)) at ⌝ }
-{
-    let end = text::find(body, at, d.terminator);
-    segments::field(text::part(body, at, end), d.element, 2)
 }

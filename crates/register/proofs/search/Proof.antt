@@ -1,24 +1,28 @@
--- `register::search` meets its contract: what is found from the slot that the search is at decides, and of two numbers the bytes that are left.
+-- `register::search` meets its contract: what is found from the slot that the search is at decides, and of two numbers the bytes that were compared.
 use Prim.Native.Nat.{_+_, _-_, _≤_, _<_}
 use mathlib.Core.Path.{_≡_, refl, sym, _∙_}
 use mathlib.Core.Bool.{Bool, true, false}
 use borrow.Author.Needs.{needs}
 use borrow.Author.Tests.{eq-eqb, ne-eqb}
-use lib.ListN.{length, drop}
+use native.Mathlib.Nat.{sub-self}
+use lib.Dec.{eqb}
+use lib.ListN.{length, take, drop, drop-of-length-le}
 use Rattle.rules.specs.Base.{same}
-use Rattle.text.proofs.Loops.{same-step, same-end, same-lengths}
+use Rattle.register.specs.Fields.{fieldIn}
 use Rattle.register.specs.Trees as trees
 use Rattle.register.specs.declared.Found.the-variants.{Repeated}
+use Rattle.register.proofs.Fields.{value-longer, value-differs, value-turn, value-ends}
 use Rattle.register.proofs.Trees.{bit-below, walk-ends, search-step}
 use native.Mathlib.Omega.{arith}
 use Rattle.register.proofs.search.Statement.{statement}
 use Rattle.register.proofs.search.Tie as tie
 
 abbrev Inv-loop : tie.InvT-loop
-Inv-loop body d starts links control found slot last i link k earlier j₀ j = same control earlier ≡ same (drop j control) (drop j earlier)
+Inv-loop body d starts links control found slot last i link k start j₀ j =
+    (j ≤ length control) × (drop j control ≡ take (length control - j) (drop (start + j) body))
 
 abbrev μ-loop : tie.MeasureT-loop
-μ-loop body d starts links control found slot last i link k earlier j₀ j = length control - j
+μ-loop body d starts links control found slot last i link k start j₀ j = j
 
 abbrev Inv-sets : tie.InvT-sets
 Inv-sets body d starts links control found₀ slot₀ last₀ i₀ found slot last i = (found ≡ Repeated) × (i ≤ last) × (trees.search d body starts links control ≡ trees.walk (65536 - i) d body starts links control slot last i)
@@ -43,11 +47,23 @@ Turn q c =
     ≡ trees.foundAt false q (s .slot) (trees.walk (65536 - (s .i + 1)) (a .d) (a .body .now) (a .starts .now) (a .links .now) (a .control .now) (trees.slotOf (link - 1) (c .bit-at .result)) link (s .i + 1))
 
 turn : (q : Bool) (c : tie.After-bit-at Inv-loop μ-loop Inv-sets μ-sets)
-    → same (c .before .before .before .before .before .before .before .before .before .before .before .args .control .now) (c .before .control-at .result .now) ≡ q → Turn q c
+    → (let a = c .before .before .before .before .before .before .before .before .before .before .before .args in same (a .control .now) (fieldIn (a .d) 0 (drop (c .before .control-start .result) (a .body .now))) ≡ q) → Turn q c
 turn q c e =
     let l = c .before .before .before .before .before in
     l .sets .inv .2
-    ∙ search-step _ _ _ _ _ _ q (small (c .before .before .before .before)) (l .sets .inv .1) (c .before .before .before .if1 .left) (c .before .before .before .before .link-at .ensures) (c .bit-at .ensures) (c .before .before .start-at .ensures) (c .before .control-at .ensures) e
+    ∙ search-step _ _ _ _ _ _ q (small (c .before .before .before .before)) (l .sets .inv .1) (c .before .before .before .if1 .left) (c .before .before .before .before .link-at .ensures) (c .bit-at .ensures) (c .before .before .start-at .ensures) (sym (c .before .control-start .ensures .1)) e
+
+-- the search goes on after a set with another number
+abbrev Goes : tie.After-bit-at Inv-loop μ-loop Inv-sets μ-sets → Type 0
+Goes c =
+    let a = c .before .before .before .before .before .before .before .before .before .before .before .args in
+    let s = c .before .before .before .before .before .sets in
+    let link = c .before .before .before .before .link-at .result in
+    (s .found ≡ Repeated) × (s .i + 1 ≤ link) × (trees.search (a .d) (a .body .now) (a .starts .now) (a .links .now) (a .control .now) ≡ trees.walk (65536 - (s .i + 1)) (a .d) (a .body .now) (a .starts .now) (a .links .now) (a .control .now) (trees.slotOf (link - 1) (c .bit-at .result)) link (s .i + 1))
+
+goes : (c : tie.After-bit-at Inv-loop μ-loop Inv-sets μ-sets)
+    → (let a = c .before .before .before .before .before .before .before .before .before .before .before .args in same (a .control .now) (fieldIn (a .d) 0 (drop (c .before .control-start .result) (a .body .now))) ≡ false) → Goes c
+goes c e = (c .before .before .before .before .before .sets .inv .0, omega (arith, small (c .before .before .before .before)), turn false c e)
 
 bucket-of-requires : tie.Need-bucket-of-requires Inv-loop μ-loop Inv-sets μ-sets
 bucket-of-requires c κs = search needs
@@ -65,8 +81,8 @@ sub-k c = search needs
 start-at-requires : tie.Need-start-at-requires Inv-loop μ-loop Inv-sets μ-sets
 start-at-requires c κs = search needs
 
-control-at-requires : tie.Need-control-at-requires Inv-loop μ-loop Inv-sets μ-sets
-control-at-requires c κs = search needs
+control-start-requires : tie.Need-control-start-requires Inv-loop μ-loop Inv-sets μ-sets
+control-start-requires c κs = search needs
 
 mul-slot : tie.Need-mul-slot Inv-loop μ-loop Inv-sets μ-sets
 mul-slot c = omega (arith, small (c .before .before .before))
@@ -83,16 +99,27 @@ add-slot-2 c = omega (arith, small (c .before .before .before .before), bit c)
 add-i : tie.Need-add-i Inv-loop μ-loop Inv-sets μ-sets
 add-i c = omega (arith, small (c .before .before .before .before))
 
+sub-if2 : tie.Need-sub-if2 Inv-loop μ-loop Inv-sets μ-sets
+sub-if2 c = omega (arith, c .before .control-start .ensures .0)
+
 sets-less : tie.Need-sets-less Inv-loop μ-loop Inv-sets μ-sets
 sets-less c = omega (arith, small (c .before .before .before .before .before))
 
 sets-again : tie.Need-sets-again Inv-loop μ-loop Inv-sets μ-sets
 sets-again c =
-    let t = c .before in
-    (t .before .before .before .before .before .sets .inv .0, omega (arith, small (t .before .before .before .before)), turn false t (same-lengths _ _ (λ e. c .if2 .taken (sym e))))
+    let a = c .before .before .before .before .before .before .before .before .before .before .before .before .args in
+    goes (c .before) (value-longer (a .d) (a .body .now) (c .before .before .control-start .result) (a .control .now) (c .if2 .taken))
 
 loop-holds : tie.Need-loop-holds Inv-loop μ-loop Inv-sets μ-sets
-loop-holds c = refl
+loop-holds c =
+    let control = c .before .before .before .before .before .before .before .before .before .before .before .before .args .control .now in
+    (omega arith, rw (drop-of-length-le control {i = length control} (omega arith), sub-self) refl)
+
+sub-j : tie.Need-sub-j Inv-loop μ-loop Inv-sets μ-sets
+sub-j c = search needs
+
+add-if3 : tie.Need-add-if3 Inv-loop μ-loop Inv-sets μ-sets
+add-if3 c = search needs
 
 shared-slice-read-if3 : tie.Need-shared-slice-read-if3 Inv-loop μ-loop Inv-sets μ-sets
 shared-slice-read-if3 c = search needs
@@ -105,25 +132,51 @@ sets-less-2 c = omega (arith, small (c .before .before .before .before .before .
 
 sets-again-2 : tie.Need-sets-again-2 Inv-loop μ-loop Inv-sets μ-sets
 sets-again-2 c =
-    let w = c .before .before .before .before in
-    let t = w .before .before in
-    let differs = w .loop .inv ∙ same-step _ _ _ false (c .before .before .before .loop-test .taken) (omega arith) (ne-eqb _ _ (c .if3 .taken)) in
-    (t .before .before .before .before .before .sets .inv .0, omega (arith, small (t .before .before .before .before)), turn false t differs)
-
-add-j : tie.Need-add-j Inv-loop μ-loop Inv-sets μ-sets
-add-j c = search needs
+    let t = c .before .before .before .before .before .before in
+    let l = c .before .before .before .before .loop in
+    let a = t .before .before .before .before .before .before .before .before .before .before .before .args in
+    goes t (value-differs (a .d) (a .body .now) (t .before .control-start .result) (a .control .now) (l .j - 1) (omega (arith, l .inv .0)) (c .if3 .taken))
 
 loop-less : tie.Need-loop-less Inv-loop μ-loop Inv-sets μ-sets
 loop-less c = search needs
 
 loop-again : tie.Need-loop-again Inv-loop μ-loop Inv-sets μ-sets
-loop-again c = c .before .before .before .before .loop .inv ∙ same-step _ _ _ true (c .before .before .before .loop-test .taken) (omega arith) (eq-eqb _ _ (c .if3 .left))
+loop-again c =
+    let t = c .before .before .before .before .before .before in
+    let l = c .before .before .before .before .loop in
+    let a = t .before .before .before .before .before .before .before .before .before .before .before .args in
+    (omega (arith, l .inv .0), value-turn (a .d) (a .body .now) (t .before .control-start .result) (a .control .now) (l .j) (l .j - 1) (omega arith) (l .inv .0) (c .before .before .before .before .before .if2 .left) (c .if3 .left) (l .inv .1))
+
+field-end-requires : tie.Need-field-end-requires Inv-loop μ-loop Inv-sets μ-sets
+field-end-requires c κs = search needs
+
+add-if4 : tie.Need-add-if4 Inv-loop μ-loop Inv-sets μ-sets
+add-if4 c = search needs
+
+-- all bytes are those of the number: it is the same where the field ends after them
+abbrev Compared : tie.After-field-end Inv-loop μ-loop Inv-sets μ-sets → Type 0
+Compared c =
+    let a = c .before .before .before .before .before .before .before .before .before .before .before .before .before .before .before .args in
+    let start = c .before .before .before .before .before .control-start .result in
+    let earlier = fieldIn (a .d) 0 (drop start (a .body .now)) in
+    same (a .control .now) earlier ≡ eqb (c .field-end .result) (start + length (a .control .now))
+
+compared : (c : tie.After-field-end Inv-loop μ-loop Inv-sets μ-sets) → Compared c
+compared c =
+    let a = c .before .before .before .before .before .before .before .before .before .before .before .before .before .before .before .args in
+    rw (c .field-end .ensures) (value-ends (a .d) (a .body .now) (c .before .before .before .before .before .control-start .result) (a .control .now) _ (c .before .loop-test .left) (c .before .before .loop .inv .1))
+
+sets-less-3 : tie.Need-sets-less-3 Inv-loop μ-loop Inv-sets μ-sets
+sets-less-3 c = omega (arith, small (c .before .before .before .before .before .before .before .before .before))
+
+sets-again-3 : tie.Need-sets-again-3 Inv-loop μ-loop Inv-sets μ-sets
+sets-again-3 c = goes (c .before .before .before .before .before) (compared (c .before) ∙ ne-eqb _ _ (c .if4 .taken))
 
 returns : tie.Need-returns Inv-loop μ-loop Inv-sets μ-sets
 returns c = sym (c .before .before .sets .inv .2 ∙ walk-ends _ _ _ _ _ _ _ _ _ (rw (c .before .link-at .ensures) at (c .if1 .taken)))
 
 returns-2 : tie.Need-returns-2 Inv-loop μ-loop Inv-sets μ-sets
-returns-2 c = c .before .before .before .before .before .before .before .before .sets .inv .0 ∙ sym (turn true (c .before .before .before) (c .before .loop .inv ∙ same-end _ _ _ (c .loop-test .left) (omega arith)))
+returns-2 c = c .before .before .before .before .before .before .before .before .before .before .sets .inv .0 ∙ sym (turn true (c .before .before .before .before .before) (compared (c .before) ∙ eq-eqb _ _ (c .if4 .left)))
 
 pub search-spec : {M : Type 1} → statement M
 search-spec =
@@ -138,21 +191,27 @@ search-spec =
     link-at-requires
     sub-k
     start-at-requires
-    control-at-requires
+    control-start-requires
     mul-slot
     add-slot
     bit-at-requires
     add-slot-2
     add-i
+    sub-if2
     sets-less
     sets-again
     loop-holds
+    sub-j
+    add-if3
     shared-slice-read-if3
     shared-slice-read-if3-2
     sets-less-2
     sets-again-2
-    add-j
     loop-less
     loop-again
+    field-end-requires
+    add-if4
+    sets-less-3
+    sets-again-3
     returns
     returns-2)
