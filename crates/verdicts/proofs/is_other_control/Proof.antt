@@ -1,4 +1,6 @@
 -- `verdicts::is_other_control` meets its contract.
+use mathlib.Core.Path.{ap}
+use mathlib.Core.Bool.{not}
 use borrow.Author.Needs.{needs}
 use Rattle.verdicts.proofs.is_other_control.Statement.{statement}
 use Rattle.verdicts.proofs.is_other_control.Tie as tie
@@ -13,7 +15,7 @@ same-bytes-requires : tie.Need-same-bytes-requires
 same-bytes-requires c κs = search needs
 
 returns : tie.Need-returns
-returns c = rw (c .before .before .before .if1 .taken) (cc)
+returns c = rw (c .before .before .before .if1 .taken, ← c .before .before .field .ensures, ← c .before .field2 .ensures) (ap not (c .same-bytes .ensures))
 
 returns-2 : tie.Need-returns-2
 returns-2 c = search needs
