@@ -434,11 +434,11 @@ fn put_response(
 {
     let gs = text::part(i, f.gs, f.gs_end);
     let control = caller.control;
-    let n = blocks::add_isa(out, 0, d, i, caller.date, caller.time, control);
-    let n = blocks::add_gs(out, n, d, gs, caller.date, caller.time, control);
+    let n = response_envelope::add_isa(out, 0, d, i, caller.date, caller.time, control);
+    let n = response_envelope::add_gs(out, n, d, gs, caller.date, caller.time, control);
     let n = add_transaction_set(out, n, i, d, f, guide, known, starts, marks, survey);
-    let n = blocks::add_ge(out, n, d, 1, control);
-    blocks::add_iea(out, n, d, 1, control)
+    let n = response_envelope::add_ge(out, n, d, 1, control);
+    response_envelope::add_iea(out, n, d, 1, control)
 }
 
 // The response where it fits: the sets are looked at, and it is measured on an empty part and then written.

@@ -91,8 +91,10 @@ use Rattle.writing.proofs.add_fixed.Reads as writing-add-fixed
 use Rattle.writing.proofs.add_optional.Reads as writing-add-optional
 use Rattle.writing.proofs.add_codes.Reads as writing-add-codes
 use Rattle.writing.proofs.add_pair.Reads as writing-add-pair
-use Rattle.blocks.proofs.add_isa.Reads as blocks-add-isa
-use Rattle.blocks.proofs.add_gs.Reads as blocks-add-gs
+use Rattle.response_envelope.proofs.add_isa.Reads as response-envelope-add-isa
+use Rattle.response_envelope.proofs.add_gs.Reads as response-envelope-add-gs
+use Rattle.response_envelope.proofs.add_ge.Reads as response-envelope-add-ge
+use Rattle.response_envelope.proofs.add_iea.Reads as response-envelope-add-iea
 use Rattle.blocks.proofs.add_st.Reads as blocks-add-st
 use Rattle.blocks.proofs.add_ak1.Reads as blocks-add-ak1
 use Rattle.blocks.proofs.add_ak2.Reads as blocks-add-ak2
@@ -100,8 +102,6 @@ use Rattle.blocks.proofs.add_ak4.Reads as blocks-add-ak4
 use Rattle.blocks.proofs.add_ak5.Reads as blocks-add-ak5
 use Rattle.blocks.proofs.add_ak9.Reads as blocks-add-ak9
 use Rattle.blocks.proofs.add_se.Reads as blocks-add-se
-use Rattle.blocks.proofs.add_ge.Reads as blocks-add-ge
-use Rattle.blocks.proofs.add_iea.Reads as blocks-add-iea
 use Rattle.notes.proofs.put_notes.Reads as notes-put-notes
 use Rattle.first_line.proofs.call_of.Reads as first-line-call-of
 use Rattle.first_line.proofs.put_refused.Reads as first-line-put-refused
@@ -389,13 +389,20 @@ writing-add-codes-once κs a r₁ r₂ s₁ s₂ p q = from-once p q
 writing-add-pair-once : Once writing-add-pair.Post (λ κs r s. written r (now (s .0)))
 writing-add-pair-once κs a r₁ r₂ s₁ s₂ p q = from-once p q
 
+-- response_envelope
+response-envelope-add-isa-once : Once response-envelope-add-isa.Post (λ κs r s. written r (now (s .0)))
+response-envelope-add-isa-once κs a r₁ r₂ s₁ s₂ p q = from-once p q
+
+response-envelope-add-gs-once : Once response-envelope-add-gs.Post (λ κs r s. written r (now (s .0)))
+response-envelope-add-gs-once κs a r₁ r₂ s₁ s₂ p q = from-once p q
+
+response-envelope-add-ge-once : Once response-envelope-add-ge.Post (λ κs r s. written r (now (s .0)))
+response-envelope-add-ge-once κs a r₁ r₂ s₁ s₂ p q = from-once p q
+
+response-envelope-add-iea-once : Once response-envelope-add-iea.Post (λ κs r s. written r (now (s .0)))
+response-envelope-add-iea-once κs a r₁ r₂ s₁ s₂ p q = from-once p q
+
 -- blocks
-blocks-add-isa-once : Once blocks-add-isa.Post (λ κs r s. written r (now (s .0)))
-blocks-add-isa-once κs a r₁ r₂ s₁ s₂ p q = from-once p q
-
-blocks-add-gs-once : Once blocks-add-gs.Post (λ κs r s. written r (now (s .0)))
-blocks-add-gs-once κs a r₁ r₂ s₁ s₂ p q = from-once p q
-
 blocks-add-st-once : Once blocks-add-st.Post (λ κs r s. written r (now (s .0)))
 blocks-add-st-once κs a r₁ r₂ s₁ s₂ p q = from-once p q
 
@@ -416,12 +423,6 @@ blocks-add-ak9-once κs a r₁ r₂ s₁ s₂ p q = from-once p q
 
 blocks-add-se-once : Once blocks-add-se.Post (λ κs r s. written r (now (s .0)))
 blocks-add-se-once κs a r₁ r₂ s₁ s₂ p q = from-once p q
-
-blocks-add-ge-once : Once blocks-add-ge.Post (λ κs r s. written r (now (s .0)))
-blocks-add-ge-once κs a r₁ r₂ s₁ s₂ p q = from-once p q
-
-blocks-add-iea-once : Once blocks-add-iea.Post (λ κs r s. written r (now (s .0)))
-blocks-add-iea-once κs a r₁ r₂ s₁ s₂ p q = from-once p q
 
 -- notes
 notes-put-notes-once : Once notes-put-notes.Post (λ κs r s. written r (now (s .0)))
