@@ -85,10 +85,10 @@ pub record Seeing (d : Delimiters) (table : Set → Option Table) (body : Bytes)
   pub among : a ≤ k
   pub places : length starts ≡ 5462
   pub marked : length marks ≡ 5462
-  pub linked : length links ≡ 11948
+  pub linked : length links ≡ 22872
 
 pub seeing-start : {d : Delimiters} (table : Set → Option Table) {body : Bytes} {rows : Guide} {starts marks : List ℕ} (links : List ℕ)
-    → Open d body rows starts marks → ((s : ℕ) → getD links s 0 ≡ 0) → length links ≡ 11948 → Seeing d table body starts marks links 0 0 0
+    → Open d body rows starts marks → ((s : ℕ) → getD links s 0 ≡ 0) → length links ≡ 22872 → Seeing d table body starts marks links 0 0 0
 seeing-start {d} table {body} {starts = starts} {marks = marks} links o h l = record {
   rest = sym (left-all d table body);
   received = omega arith;

@@ -40,8 +40,8 @@ const ST02: [u8; 4] = *b"0001";
 // As many sets as fit in the longest interchange: each takes twelve bytes at least.
 const MOST_SETS: usize = 5462;
 
-// The links of the buckets, and two for each set.
-const LINKS: usize = register::BUCKETS + 2 * MOST_SETS;
+// The links of the buckets, and four for each set.
+const LINKS: usize = register::BUCKETS + 4 * MOST_SETS;
 
 // The marks of a set: it has no code; it has some; one of them is that its control number was used before.
 const ACCEPTED: u8 = 0;

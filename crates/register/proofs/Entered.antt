@@ -16,8 +16,8 @@ use Rattle.text.proofs.Loops.{or-false}
 use Rattle.sets.specs.Places.{controlAt, controlsAt}
 use Rattle.register.specs.declared.Found.{Found}
 use Rattle.register.specs.declared.Found.the-variants.{Repeated, Free}
-use Rattle.register.specs.Trees.{bucketOf, bitAt, slotOf, walk, search, isRepeated, linkedBy}
-use Rattle.register.proofs.Trees.{bucket-below, bit-below, walk-turn, walk-ends, walk-cases}
+use Rattle.register.specs.Trees.{bucketOf, bitsAt, slotOf, walk, search, isRepeated, linkedBy}
+use Rattle.register.proofs.Trees.{bucket-below, bits-below, walk-turn, walk-ends, walk-cases}
 
 -- The links lead to the first n sets alone, and a search finds a number where it is one of theirs.
 pub record Entered (d : Delimiters) (body : Bytes) (starts links : List ℕ) (n : ℕ) : Type 0 where
@@ -28,9 +28,9 @@ pub record Entered (d : Delimiters) (body : Bytes) (starts links : List ℕ) (n 
 -- 1. A search.
 -- one past the set that a slot belongs to, 0 for that of a bucket: the last set of each search that comes to the slot
 abbrev ownerOf : ℕ → ℕ
-ownerOf slot = (slot - 1022) / 2
+ownerOf slot = (slot - 1020) / 4
 
-owner-next : (k b : ℕ) → 0 < k → b < 2 → k ≡ ownerOf (slotOf (k - 1) b)
+owner-next : (k b : ℕ) → 0 < k → b < 4 → k ≡ ownerOf (slotOf (k - 1) b)
 owner-next k b h l = omega arith
 
 abbrev slotIn : Found → ℕ
@@ -45,11 +45,11 @@ module _ (d : Delimiters) (body : Bytes) (starts links : List ℕ) (n : ℕ) (li
   walk-free (suc f) slot last i h k o l =
       let next = getD links slot 0 in
       let most = linked slot in
-      let bit = bit-below c i in
+      let bit = bits-below c i in
       walk-cases d body starts links c (λ (r : Found). r ≡ Free s → (s < slotOf n 0) × (getD links s 0 ≤ ownerOf s)) f slot last i
       (λ e p. rw (← ap slotIn p) (l, rw o at e))
       (λ e q p. absurd (true≢false (ap isRepeated p)))
-      (λ e q. walk-free f (slotOf (next - 1) (bitAt c i)) next (i + 1) most (omega arith) (owner-next next (bitAt c i) (omega arith) bit) (omega arith))
+      (λ e q. walk-free f (slotOf (next - 1) (bitsAt c i)) next (i + 1) most (omega arith) (owner-next next (bitsAt c i) (omega arith) bit) (omega arith))
 
   search-free : n < 65536 → search d body starts links c ≡ Free s → (s < slotOf n 0) × (getD links s 0 ≤ ownerOf s)
   unfolding search
@@ -63,7 +63,7 @@ module _ (d : Delimiters) (body : Bytes) (starts links : List ℕ) (n : ℕ) (li
   walk-start (suc f) slot last i =
       let next = getD links slot 0 in
       let most = linked slot in
-      let onward = walk-start f (slotOf (next - 1) (bitAt c i)) next (i + 1) in
+      let onward = walk-start f (slotOf (next - 1) (bitsAt c i)) next (i + 1) in
       walk-cases d body starts links c (λ (r : Found). walk (suc f) d body (set starts n at) links c slot last i ≡ r) f slot last i
       (λ e. walk-ends d body (set starts n at) links c (suc f) slot last i e)
       (λ e q. walk-turn d body (set starts n at) links c f slot last i false true (lt-leb next last e) (rw (getD-set-other starts n (next - 1) at 0 (λ p. omega arith)) q))
@@ -124,15 +124,15 @@ module _ (d : Delimiters) (body : Bytes) (starts links : List ℕ) (n : ℕ) (e 
 
     walk-here : (f last i : ℕ) → last ≤ n → isRepeated (walk (suc f) d body starts links′ c s last i) ≡ same c numberOf
     walk-here f last i h =
-        let bit = bit-below c i in
+        let bit = bits-below c i in
         let next : getD links′ s 0 ≡ n + 1 = getD-set-same links s (n + 1) 0 room in
         let k : getD links′ s 0 - 1 ≡ n = omega (arith, next) in
-        let none : getD links′ (slotOf n (bitAt c i)) 0 ≡ 0 =
-        getD-set-other links s (slotOf n (bitAt c i)) (n + 1) 0 (λ p. omega arith) ∙ e .unlinked (slotOf n (bitAt c i)) (omega arith) in
+        let none : getD links′ (slotOf n (bitsAt c i)) 0 ≡ 0 =
+        getD-set-other links s (slotOf n (bitsAt c i)) (n + 1) 0 (λ p. omega arith) ∙ e .unlinked (slotOf n (bitsAt c i)) (omega arith) in
         walk-cases d body starts links′ c (λ (r : Found). isRepeated r ≡ same c numberOf) f s last i
         (λ l. absurd (omega (arith, next)))
         (λ l q. sym (rw k at q))
-        (λ l q. rw (k, walk-ends d body starts links′ c f (slotOf n (bitAt c i)) (getD links′ s 0) (i + 1) (omega (arith, none))) (sym (rw k at q)))
+        (λ l q. rw (k, walk-ends d body starts links′ c f (slotOf n (bitsAt c i)) (getD links′ s 0) (i + 1) (omega (arith, none))) (sym (rw k at q)))
 
     walk-link : (f slot last i : ℕ) → last ≤ n → n < f + last → last ≡ ownerOf slot
         → (same c numberOf ≡ true → walk f d body starts links c slot last i ≡ Free s)
@@ -141,7 +141,7 @@ module _ (d : Delimiters) (body : Bytes) (starts links : List ℕ) (n : ℕ) (e 
     walk-link (suc f) slot last i h k o =
         let next = getD links slot 0 in
         let most = e .linked slot in
-        let bit = bit-below c i in
+        let bit = bits-below c i in
         compared slot s
         (λ here at-s. rw (here, walk-here f last i h, walk-ends d body starts links c (suc f) s last i (omega arith)) (sym (or-false (same c numberOf))))
         (λ other.
@@ -155,7 +155,7 @@ module _ (d : Delimiters) (body : Bytes) (starts links : List ℕ) (n : ℕ) (e 
         rw (walk-turn d body starts links′ c f slot last i false true (rw link (lt-leb next last l)) (rw link q)) (sym (or-true (same c numberOf))))
         (λ l q at-s.
         rw (walk-turn d body starts links′ c f slot last i false false (rw link (lt-leb next last l)) (rw link q), link)
-        (walk-link f (slotOf (next - 1) (bitAt c i)) next (i + 1) most (omega arith) (owner-next next (bitAt c i) (omega arith) bit) at-s)))
+        (walk-link f (slotOf (next - 1) (bitsAt c i)) next (i + 1) most (omega arith) (owner-next next (bitsAt c i) (omega arith) bit) at-s)))
 
   module _ (few : n < 65536) (inStarts : n < length starts) (inLinks : slotOf n 0 ≤ length links) where
     free-inside : {s : ℕ} → search d body starts links numberOf ≡ Free s → s < length links

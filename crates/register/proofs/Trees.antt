@@ -14,7 +14,7 @@ use Rattle.text.proofs.Loops.{left-cons}
 use Rattle.sets.specs.Places.{controlAt}
 use Rattle.register.specs.declared.Found.{Found}
 use Rattle.register.specs.declared.Found.the-variants.{Repeated, Free}
-use Rattle.register.specs.Trees.{bucketFrom, bucketOf, bitAt, slotOf, foundAt, walk, search}
+use Rattle.register.specs.Trees.{bucketFrom, bucketOf, bitsAt, slotOf, foundAt, walk, search}
 
 -- 1. Buckets and bits.
 -- the bucket of the bytes that are left
@@ -34,9 +34,9 @@ bucket-from-below n (b ∷ bs) h = bucket-from-below _ bs (mod-lt _ (omega arith
 pub bucket-below : (c : Bytes) → bucketOf c < 1024
 bucket-below c = bucket-from-below 0 c (omega arith)
 
-pub bit-below : (c : Bytes) (i : ℕ) → bitAt c i < 2
-unfolding bitAt
-bit-below c i = mod-lt _ (omega arith)
+pub bits-below : (c : Bytes) (i : ℕ) → bitsAt c i < 4
+unfolding bitsAt
+bits-below c i = mod-lt _ (omega arith)
 
 -- 2. The search.
 module _ (d : Delimiters) (body : Bytes) (starts links : List ℕ) (c : Bytes) where
@@ -44,7 +44,7 @@ module _ (d : Delimiters) (body : Bytes) (starts links : List ℕ) (c : Bytes) w
   pub walk-turn : (f slot last i : ℕ) (p q : Bool) → leb (getD links slot 0) last ≡ p
       → same c (controlAt d body (getD starts (getD links slot 0 - 1) 0)) ≡ q
       → walk (suc f) d body starts links c slot last i
-      ≡ foundAt p q slot (walk f d body starts links c (slotOf (getD links slot 0 - 1) (bitAt c i)) (getD links slot 0) (i + 1))
+      ≡ foundAt p q slot (walk f d body starts links c (slotOf (getD links slot 0 - 1) (bitsAt c i)) (getD links slot 0) (i + 1))
   unfolding walk
   walk-turn f slot last i p q e g = rw (e, g)
 
@@ -58,7 +58,7 @@ module _ (d : Delimiters) (body : Bytes) (starts links : List ℕ) (c : Bytes) w
   pub walk-cases : (P : Found → Type 0) (f slot last i : ℕ) → (getD links slot 0 ≤ last → P (Free slot))
       → (last < getD links slot 0 → same c (controlAt d body (getD starts (getD links slot 0 - 1) 0)) ≡ true → P Repeated)
       → (last < getD links slot 0 → same c (controlAt d body (getD starts (getD links slot 0 - 1) 0)) ≡ false
-      → P (walk f d body starts links c (slotOf (getD links slot 0 - 1) (bitAt c i)) (getD links slot 0) (i + 1)))
+      → P (walk f d body starts links c (slotOf (getD links slot 0 - 1) (bitsAt c i)) (getD links slot 0) (i + 1)))
       → P (walk (suc f) d body starts links c slot last i)
   walk-cases P f slot last i ends hits goes = go _ _ refl refl
     where
@@ -70,7 +70,7 @@ module _ (d : Delimiters) (body : Bytes) (starts links : List ℕ) (c : Bytes) w
 
   -- from what the calls of a turn ensure
   pub search-step : (slot : ℕ) {link last i bit start : ℕ} {earlier : Bytes} (q : Bool) → link < 65536 → i ≤ last → last < link
-      → link ≡ getD links slot 0 → bit ≡ bitAt c i → start ≡ getD starts (link - 1) 0 → earlier ≡ controlAt d body start → same c earlier ≡ q
+      → link ≡ getD links slot 0 → bit ≡ bitsAt c i → start ≡ getD starts (link - 1) 0 → earlier ≡ controlAt d body start → same c earlier ≡ q
       → walk (65536 - i) d body starts links c slot last i
       ≡ foundAt false q slot (walk (65536 - (i + 1)) d body starts links c (slotOf (link - 1) bit) link (i + 1))
   search-step slot {link} {last} {i} q h k l n b s e g =

@@ -1,4 +1,4 @@
--- Control numbers in buckets. The sets of a bucket are a tree: from each set two links lead to sets after it, and the next bit of the number that is looked for tells which to take.
+-- Control numbers in buckets. The sets of a bucket are a tree: from each set four links lead to sets after it, and the next two bits of the number that is looked for tell which to take.
 use Prim.Native.Nat.{ℕ, zero, suc, _+_, _*_, _/_, _%_, _^_, _-_}
 use mathlib.Core.Bool.{Bool, true, false}
 use mathlib.Core.List.{List, [], _∷_}
@@ -18,13 +18,13 @@ bucketFrom n (b ∷ bs) = bucketFrom ((n * 10 + b) % 1024) bs
 abbrev pub bucketOf : Bytes → ℕ
 bucketOf = bucketFrom 0
 
--- bit i of a control number, from the lowest of its first byte on; 0 past the end
-unfoldable pub bitAt : Bytes → ℕ → ℕ
-bitAt c i = getD c (i / 8) 0 / 2 ^ (i % 8) % 2
+-- pair i of a control number's bits, from the lowest of its first byte on; 0 past the end
+unfoldable pub bitsAt : Bytes → ℕ → ℕ
+bitsAt c i = getD c (i / 4) 0 / 2 ^ (2 * (i % 4)) % 4
 
--- the place of the link from set k that bit b takes, after those of the buckets
+-- the place of the link from set k that the bits b take, after those of the buckets
 abbrev pub slotOf : ℕ → ℕ → ℕ
-slotOf k b = 1024 + 2 * k + b
+slotOf k b = 1024 + 4 * k + b
 
 -- what is found at a slot, by whether its link leads nowhere and whether the set that it leads to has the number; r is what is found from there on
 abbrev pub foundAt : Bool → Bool → ℕ → Found → Found
@@ -32,12 +32,12 @@ foundAt true q slot r = Free slot
 foundAt false true slot r = Repeated
 foundAt false false slot r = r
 
--- What is found from a slot on by bits i and up. A link is one past the set that it leads to; it leads nowhere where that is no set after the last one, so the search ends whatever the links are.
+-- What is found from a slot on by pairs i and up. A link is one past the set that it leads to; it leads nowhere where that is no set after the last one, so the search ends whatever the links are.
 unfoldable pub walk : ℕ → Delimiters → Bytes → List ℕ → List ℕ → Bytes → ℕ → ℕ → ℕ → Found
 walk zero d body starts links c slot last i = Free slot
 walk (suc f) d body starts links c slot last i =
     let link = getD links slot 0 in
-    let r = walk f d body starts links c (slotOf (link - 1) (bitAt c i)) link (i + 1) in
+    let r = walk f d body starts links c (slotOf (link - 1) (bitsAt c i)) link (i + 1) in
     foundAt (leb link last) (same c (controlAt d body (getD starts (link - 1) 0))) slot r
 
 -- what is found from the bucket of a control number on; that many steps are enough, since a link has 16 bits

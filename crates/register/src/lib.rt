@@ -5,10 +5,10 @@ ghost use lib.ListN.{length, getD, drop};
 ghost use Rattle.sets.specs.Places.{controlAt};
 ghost use Rattle.register.specs.Fields.{fieldIn};
 ghost use Rattle.register.specs.Trees as trees;
-ghost use Rattle.register.specs.Trees.{bucketOf, bitAt};
+ghost use Rattle.register.specs.Trees.{bucketOf, bitsAt};
 use rules::Delimiters;
 
-// The links of the buckets come first, then two for each set. A link is one past the number of the set that it leads to, 0 for none.
+// The links of the buckets come first, then four for each set. A link is one past the number of the set that it leads to, 0 for none.
 pub const BUCKETS: usize = 1024;
 
 // What a search comes to: a set has the number, or none has, and this is the slot of the link to enter it by.
@@ -73,7 +73,7 @@ fn field_end(body: &[u8], d: Delimiters, at: usize) -> usize
     i
 }
 
-// Looks for a set with the ST02 `control`, in the tree of its bucket: from each set its next bit leads to one of two after it.
+// Looks for a set with the ST02 `control`, in the tree of its bucket: from each set its next two bits lead to one of four after it.
 pub fn search(body: &[u8], d: Delimiters, starts: &[u16], links: &[u16], control: &[u8]) -> Found
     ensures { λ r. ⌜ r ≡ trees.search d (now (body .entry)) (now (starts .entry)) (now (links .entry)) (now (control .entry)) ⌝ }
 {
@@ -89,7 +89,7 @@ pub fn search(body: &[u8], d: Delimiters, starts: &[u16], links: &[u16], control
         }
         let k = link - 1;
         let start = control_start(body, d, start_at(starts, k));
-        slot = BUCKETS + 2 * k + bit_at(control, i);
+        slot = BUCKETS + 4 * k + bits_at(control, i);
         last = link;
         i += 1;
         if body.len() - start < control.len() {
@@ -111,13 +111,13 @@ pub fn search(body: &[u8], d: Delimiters, starts: &[u16], links: &[u16], control
     found
 }
 
-// Bit i of a control number, from the lowest of its first byte on; 0 past the end.
-fn bit_at(control: &[u8], i: usize) -> usize
-    ensures { λ r. ⌜ r ≡ bitAt (now (control .entry)) i ⌝ }
+// Pair i of a control number's bits, from the lowest of its first byte on; 0 past the end.
+fn bits_at(control: &[u8], i: usize) -> usize
+    ensures { λ r. ⌜ r ≡ bitsAt (now (control .entry)) i ⌝ }
 {
-    let at = i / 8;
+    let at = i / 4;
     if at < control.len() {
-        return (control[at] as usize >> (i % 8)) % 2;
+        return (control[at] as usize >> (2 * (i % 4))) % 4;
     }
     0
 }

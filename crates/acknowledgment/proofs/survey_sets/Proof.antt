@@ -24,7 +24,7 @@ abbrev μ-loop : tie.MeasureT-loop
 
 loop-holds : tie.Need-loop-holds Inv-loop μ-loop
 loop-holds c =
-    (seeing-start _ _ (c .before .before .before .pre) (λ s. zeros-at 11948 s) (length-replicate {A = ℕ} 11948 0), sofar-start _ _ _ (omega arith))
+    (seeing-start _ _ (c .before .before .before .pre) (λ s. zeros-at 22872 s) (length-replicate {A = ℕ} 22872 0), sofar-start _ _ _ (omega arith))
 
 -- the set at the place, and that there is room for it
 abbrev IsSet : tie.After-next-set Inv-loop μ-loop → Type 0

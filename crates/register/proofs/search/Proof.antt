@@ -12,7 +12,7 @@ use Rattle.register.specs.Fields.{fieldIn}
 use Rattle.register.specs.Trees as trees
 use Rattle.register.specs.declared.Found.the-variants.{Repeated}
 use Rattle.register.proofs.Fields.{value-longer, value-differs, value-turn, value-ends}
-use Rattle.register.proofs.Trees.{bit-below, walk-ends, search-step}
+use Rattle.register.proofs.Trees.{bits-below, walk-ends, search-step}
 use native.Mathlib.Omega.{arith}
 use Rattle.register.proofs.search.Statement.{statement}
 use Rattle.register.proofs.search.Tie as tie
@@ -34,34 +34,34 @@ abbrev μ-sets : tie.MeasureT-sets
 small : (c : tie.After-link-at Inv-loop μ-loop Inv-sets μ-sets) → c .link-at .result < 65536
 small c = omega (arith, c .link-at .ensures, c .before .before .before .before .shared-slice-known3 .given (c .before .sets .slot))
 
-bit : (c : tie.After-bit-at Inv-loop μ-loop Inv-sets μ-sets) → c .bit-at .result < 2
-bit c = rw (c .bit-at .ensures) (bit-below _ _)
+bit : (c : tie.After-bits-at Inv-loop μ-loop Inv-sets μ-sets) → c .bits-at .result < 4
+bit c = rw (c .bits-at .ensures) (bits-below _ _)
 
 -- one turn: the number is that of the set, as q says
-abbrev Turn : Bool → tie.After-bit-at Inv-loop μ-loop Inv-sets μ-sets → Type 0
+abbrev Turn : Bool → tie.After-bits-at Inv-loop μ-loop Inv-sets μ-sets → Type 0
 Turn q c =
     let a = c .before .before .before .before .before .before .before .before .before .before .before .args in
     let s = c .before .before .before .before .before .sets in
     let link = c .before .before .before .before .link-at .result in
     trees.search (a .d) (a .body .now) (a .starts .now) (a .links .now) (a .control .now)
-    ≡ trees.foundAt false q (s .slot) (trees.walk (65536 - (s .i + 1)) (a .d) (a .body .now) (a .starts .now) (a .links .now) (a .control .now) (trees.slotOf (link - 1) (c .bit-at .result)) link (s .i + 1))
+    ≡ trees.foundAt false q (s .slot) (trees.walk (65536 - (s .i + 1)) (a .d) (a .body .now) (a .starts .now) (a .links .now) (a .control .now) (trees.slotOf (link - 1) (c .bits-at .result)) link (s .i + 1))
 
-turn : (q : Bool) (c : tie.After-bit-at Inv-loop μ-loop Inv-sets μ-sets)
+turn : (q : Bool) (c : tie.After-bits-at Inv-loop μ-loop Inv-sets μ-sets)
     → (let a = c .before .before .before .before .before .before .before .before .before .before .before .args in same (a .control .now) (fieldIn (a .d) 0 (drop (c .before .control-start .result) (a .body .now))) ≡ q) → Turn q c
 turn q c e =
     let l = c .before .before .before .before .before in
     l .sets .inv .2
-    ∙ search-step _ _ _ _ _ _ q (small (c .before .before .before .before)) (l .sets .inv .1) (c .before .before .before .if1 .left) (c .before .before .before .before .link-at .ensures) (c .bit-at .ensures) (c .before .before .start-at .ensures) (sym (c .before .control-start .ensures .1)) e
+    ∙ search-step _ _ _ _ _ _ q (small (c .before .before .before .before)) (l .sets .inv .1) (c .before .before .before .if1 .left) (c .before .before .before .before .link-at .ensures) (c .bits-at .ensures) (c .before .before .start-at .ensures) (sym (c .before .control-start .ensures .1)) e
 
 -- the search goes on after a set with another number
-abbrev Goes : tie.After-bit-at Inv-loop μ-loop Inv-sets μ-sets → Type 0
+abbrev Goes : tie.After-bits-at Inv-loop μ-loop Inv-sets μ-sets → Type 0
 Goes c =
     let a = c .before .before .before .before .before .before .before .before .before .before .before .args in
     let s = c .before .before .before .before .before .sets in
     let link = c .before .before .before .before .link-at .result in
-    (s .found ≡ Repeated) × (s .i + 1 ≤ link) × (trees.search (a .d) (a .body .now) (a .starts .now) (a .links .now) (a .control .now) ≡ trees.walk (65536 - (s .i + 1)) (a .d) (a .body .now) (a .starts .now) (a .links .now) (a .control .now) (trees.slotOf (link - 1) (c .bit-at .result)) link (s .i + 1))
+    (s .found ≡ Repeated) × (s .i + 1 ≤ link) × (trees.search (a .d) (a .body .now) (a .starts .now) (a .links .now) (a .control .now) ≡ trees.walk (65536 - (s .i + 1)) (a .d) (a .body .now) (a .starts .now) (a .links .now) (a .control .now) (trees.slotOf (link - 1) (c .bits-at .result)) link (s .i + 1))
 
-goes : (c : tie.After-bit-at Inv-loop μ-loop Inv-sets μ-sets)
+goes : (c : tie.After-bits-at Inv-loop μ-loop Inv-sets μ-sets)
     → (let a = c .before .before .before .before .before .before .before .before .before .before .before .args in same (a .control .now) (fieldIn (a .d) 0 (drop (c .before .control-start .result) (a .body .now))) ≡ false) → Goes c
 goes c e = (c .before .before .before .before .before .sets .inv .0, omega (arith, small (c .before .before .before .before)), turn false c e)
 
@@ -90,8 +90,8 @@ mul-slot c = omega (arith, small (c .before .before .before))
 add-slot : tie.Need-add-slot Inv-loop μ-loop Inv-sets μ-sets
 add-slot c = omega (arith, small (c .before .before .before))
 
-bit-at-requires : tie.Need-bit-at-requires Inv-loop μ-loop Inv-sets μ-sets
-bit-at-requires c κs = search needs
+bits-at-requires : tie.Need-bits-at-requires Inv-loop μ-loop Inv-sets μ-sets
+bits-at-requires c κs = search needs
 
 add-slot-2 : tie.Need-add-slot-2 Inv-loop μ-loop Inv-sets μ-sets
 add-slot-2 c = omega (arith, small (c .before .before .before .before), bit c)
@@ -194,7 +194,7 @@ search-spec =
     control-start-requires
     mul-slot
     add-slot
-    bit-at-requires
+    bits-at-requires
     add-slot-2
     add-i
     sub-if2
