@@ -1,7 +1,7 @@
 -- Which bytes may be delimiters, by the ranges that a byte lies in or out of.
 use Prim.Native.Nat.{ℕ, _<_, _≤_}
 use mathlib.Core.Path.{_≡_, refl}
-use mathlib.Core.Bool.{Bool, true, false, _&&_, _||_}
+use mathlib.Core.Bool.{Bool, true, false, _&&_, _||_, or-true}
 use borrow.Author.Tests.{le-leb, lt-leb, leb-true, ne-eqb}
 use lib.Dec.{leb}
 use Rattle.rules.specs.Base.{between, isUpper, isLower}
@@ -17,14 +17,6 @@ outside lo hi b h = go (leb lo b) refl
     go : (q : Bool) → leb lo b ≡ q → between lo hi b ≡ false
     go true e = rw (lt-leb b hi (h (leb-true lo b e))) (and-false (leb lo b))
     go false e = rw e
-
-pub and-true : (a : Bool) → a && true ≡ a
-and-true true = refl
-and-true false = refl
-
-or-true : (a : Bool) → a || true ≡ true
-or-true true = refl
-or-true false = refl
 
 module _ (b : ℕ) where
   pub plain-upper : 65 ≤ b → b ≤ 90 → plain b ≡ false

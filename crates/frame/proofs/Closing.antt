@@ -11,6 +11,7 @@ use Rattle.rules.specs.Groups.{groupOf, groupWith, isGE}
 use Rattle.rules.specs.Refusals.{isEnvelope, enveloped}
 use Rattle.rules.proofs.Logic.{same→eq, front-snoc, last-snoc, last-all, all-head, all-tail, all-weaken}
 use Rattle.rules.proofs.SetLaws.{isOuter, Optional, missing, there}
+use Rattle.rules.proofs.Envelope.{outer-GE}
 use Rattle.text.proofs.Loops.{and-false}
 use Rattle.frame.specs.Places.{isEnvelopeName}
 
@@ -24,10 +25,6 @@ outer-other name s n o = go (isNamed name s) refl
     go : (b : Bool) → isNamed name s ≡ b → b ≡ false
     go false q = refl
     go true q = absurd (true≢false (sym n ∙ ap isEnvelopeName (sym (same→eq (field s 0) name q)) ∙ not-true (isEnvelope s) o))
-
-outer-GE : (s : Segment) → isOuter s ≡ true → isGE s ≡ false
-unfolding any same
-outer-GE s o = outer-other (ascii "GE") s refl o
 
 outer-IEA : (s : Segment) → isOuter s ≡ true → isIEA s ≡ false
 unfolding any same

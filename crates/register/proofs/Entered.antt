@@ -1,7 +1,7 @@
 -- The first n sets in the trees of their buckets: what a search finds is what is found among all of them.
 use Prim.Native.Nat.{ℕ, zero, suc, _+_, _/_, _-_, _<_, _≤_}
 use mathlib.Core.Path.{_≡_, refl, sym, ap, _∙_}
-use mathlib.Core.Bool.{Bool, true, false, _||_, true≢false}
+use mathlib.Core.Bool.{Bool, true, false, _||_, or-true, true≢false}
 use mathlib.Core.List.{List, [], _∷_, _++_, map, map-append}
 use native.Mathlib.Numerals.{add-one}
 use native.Mathlib.Omega.{arith}
@@ -88,10 +88,6 @@ any-snoc p (y ∷ ys) x = rw (any-snoc p ys x) (swap (p y) (p x))
     swap true true = refl
     swap true false = refl
     swap false b = refl
-
-or-true : (a : Bool) → a || true ≡ true
-or-true true = refl
-or-true false = refl
 
 or-neither : (a : Bool) → (a ≡ true → ⊥) → a || false ≡ false
 or-neither true h = absurd (h refl)

@@ -8,7 +8,7 @@ ghost use Rattle.writing.specs.Over.{From};
 use rules::Delimiters;
 
 // ISA01 and ISA02, or ISA03 and ISA04: no authorization, no security.
-fn add_none(out: &mut [u8], n: usize, d: Delimiters) -> usize
+fn add_no_information(out: &mut [u8], n: usize, d: Delimiters) -> usize
     ensures { λ r. ⌜ From n (fieldsOut d (ascii "00" ∷ ascii "          " ∷ [])) r (now (out .entry)) (now (out .exit)) ⌝ }
 {
     let n = writing::add_field(out, n, d, b"00");
@@ -56,8 +56,8 @@ pub fn add_isa(
     ensures { λ r. ⌜ From n (segmentOut d (isaOut d (isa (now (i .entry))) date time control)) r (now (out .entry)) (now (out .exit)) ⌝ }
 {
     let n = writing::add_bytes(out, n, &rules::ISA);
-    let n = add_none(out, n, d);
-    let n = add_none(out, n, d);
+    let n = add_no_information(out, n, d);
+    let n = add_no_information(out, n, d);
     let n = add_isa_parties(out, n, d, i);
     let n = add_isa_stamp(out, n, d, date, time, control);
     let n = writing::add_field(out, n, d, b"0");

@@ -267,7 +267,7 @@ made i date time control c =
     }
 
 -- 5. The other way: sets between ISA, GS and GE, IEA are the group of these segments.
-outer-GE : (s : Segment) → isOuter s ≡ true → isGE s ≡ false
+pub outer-GE : (s : Segment) → isOuter s ≡ true → isGE s ≡ false
 unfolding same any
 outer-GE s e = go (isGE s) refl
   where

@@ -1,10 +1,9 @@
 -- `envelope::are_distinct` meets its contract.
-use Rattle.envelope.proofs.Marks.{and-true}
 use borrow.Author.Tests.{eq-eqb, ne-eqb}
 use Rattle.rules.specs.Base.{any}
 use Rattle.rules.specs.Cutting.{marks}
 use Rattle.rules.specs.Refusals.{distinct}
-use Rattle.text.proofs.Loops.{or-false}
+use Rattle.text.proofs.Loops.{and-true, or-false}
 use Rattle.envelope.proofs.are_distinct.Statement.{statement}
 use Rattle.envelope.proofs.are_distinct.Tie as tie
 

@@ -1,10 +1,10 @@
 -- `envelope::are_good_marks` meets its contract.
-use Rattle.envelope.proofs.Marks.{and-true}
 use mathlib.Core.Path.{sym, _∙_}
 use borrow.Author.Tests.{not-true, not-false}
 use Rattle.rules.specs.Base.{all}
 use Rattle.rules.specs.Cutting.{marks}
 use Rattle.rules.specs.Refusals.{goodMarks}
+use Rattle.text.proofs.Loops.{and-true}
 use borrow.Author.Needs.{needs}
 use Rattle.envelope.proofs.are_good_marks.Statement.{statement}
 use Rattle.envelope.proofs.are_good_marks.Tie as tie
