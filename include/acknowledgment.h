@@ -54,10 +54,11 @@ extern "C" {
  *   - The interchange, the buffer and *length do not overlap, and nothing else
  *     writes to them during the call.
  *
- * A call allocates nothing, takes less than 70 KiB of stack, keeps nothing and
- * reads nothing but what it is lent: threads may call at the same time, each
- * with a buffer of its own. The interchange is not changed. The time grows with
- * the length of the interchange (docs/PERFORMANCE.md).
+ * A call allocates nothing, takes less than 70 KiB of stack (as measured on
+ * x86-64), keeps nothing and reads nothing but what it is lent: threads may
+ * call at the same time, each with a buffer of its own. The interchange is not
+ * changed. The time grows with the length of the interchange
+ * (docs/PERFORMANCE.md).
  */
 uint32_t x12_acknowledge(const uint8_t *interchange, size_t interchange_length,
                          uint8_t *response, size_t response_length,
