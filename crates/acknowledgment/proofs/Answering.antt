@@ -17,6 +17,7 @@ use Rattle.rules.specs.Groups.{groupOf, supported, edition, tableIn, groupRepor
 use Rattle.rules.specs.Refusals.{headRules, refusal}
 use Rattle.rules.specs.Response.{out, transactionSet, respond, response}
 use Rattle.rules.specs.Answers.{fitting, answer, buffer, outcome, Allowed, called}
+use Rattle.rules.specs.declared.Call.{Call}
 use Rattle.rules.specs.declared.Answer.{Answer}
 use Rattle.rules.specs.declared.Answer.the-variants.{Written, Refused, TooLong}
 use Rattle.rules.specs.declared.Delimiters.{Delimiters}
@@ -27,8 +28,8 @@ use Rattle.tables.specs.Reading.{Guide, Limits}
 use Rattle.guides.specs.Encoded.{guide006010, guide004010}
 use Rattle.guides.proofs.Editions.{means-006010, means-004010, limits-006010, limits-004010}
 use Rattle.text.specs.Text.{part}
-use Rattle.frame.specs.declared.Frame.{Frame}
-use Rattle.frame.proofs.Laws.{FrameIs}
+use Rattle.envelope.specs.declared.Frame.{Frame}
+use Rattle.envelope.proofs.Laws.{FrameIs}
 use Rattle.sets.proofs.Refused.{passed}
 use Rattle.verdicts.specs.Verdicts.{editionIn}
 use Rattle.verdicts.specs.declared.Edition.{Edition}
@@ -104,11 +105,11 @@ unfolding response respond
 set-bound i h = let d = delimiters i in omega (arith, simp (out-cons d, length-out-append d) at (response-bound i 0 0 0 h))
 
 -- with the rows of its edition it has all that the writer asks for
-pub answerable : (i : Bytes) (date time control : ℕ) {d : Delimiters} {f : Frame} {rows : Guide} {known : Bool}
-    → (refusal i date time control ≡ 0) × FrameIs (delimiters i) i f → d ≡ delimiters i
+pub answerable : (i : Bytes) (call : Call) {d : Delimiters} {f : Frame} {rows : Guide} {known : Bool}
+    → (refusal i call ≡ 0) × FrameIs (delimiters i) i f → d ≡ delimiters i
     → Decides (split (d .element) (part i (f .gs) (f .«gs_end»))) rows known → (d ≡ delimiters i) × Answerable d i f rows known
-answerable i date time control (e, w) q t =
-    let u = unrefused i date time control e in
+answerable i call (e, w) q t =
+    let u = unrefused i call e in
     let short = short-of i u in (
       q,
       record {
@@ -122,20 +123,20 @@ answerable i date time control (e, w) q t =
     )
 
 -- 4. The answer and its outcome.
-module _ (i lent : Bytes) (date time control : ℕ) where
+module _ (i lent : Bytes) (call : Call) where
   -- without a refusal, the response decides
-  pub allowed : {a : Answer} {left : Bytes} → refusal i date time control ≡ 0
-      → (a ≡ fitting (response i date time control) (length lent)) × (left ≡ buffer a (response i date time control) lent)
-      → Allowed i lent date time control a left
+  pub allowed : {a : Answer} {left : Bytes} → refusal i call ≡ 0
+      → (a ≡ fitting (response i call) (length lent)) × (left ≡ buffer a (response i call) lent)
+      → Allowed i lent call a left
   unfolding Allowed answer
   allowed e p = (rw e (p .0), p .1)
 
   -- a refusal leaves the buffer as it was
-  pub refused-allowed : {n : ℕ} → checks.Refused n ≡ checked i date time control → Allowed i lent date time control (Refused n) lent
+  pub refused-allowed : {n : ℕ} → checks.Refused n ≡ checked i call → Allowed i lent call (Refused n) lent
   unfolding Allowed answer
-  refused-allowed {n} e = let due = refused-due i date time control e in (rw (← due .0, ne-eqb n 0 (due .1)), refl)
+  refused-allowed {n} e = let due = refused-due i call e in (rw (← due .0, ne-eqb n 0 (due .1)), refl)
 
   -- what is allowed has the outcome of the call
-  pub allowed-outcome : (a : Answer) {left : Bytes} → Allowed i lent date time control a left → outcome a left ≡ called i lent date time control
+  pub allowed-outcome : (a : Answer) {left : Bytes} → Allowed i lent call a left → outcome a left ≡ called i lent call
   unfolding Allowed called
   allowed-outcome a p = rw (p .1, p .0)

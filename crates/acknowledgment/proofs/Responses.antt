@@ -13,13 +13,14 @@ use Rattle.rules.specs.Tables.{Table}
 use Rattle.rules.specs.Sets.{Set, declaredIn}
 use Rattle.rules.specs.Groups.{Group, GroupReport, groupOf, groupReport, sets, tableIn, setReports, acceptedIn, verdict, or-else}
 use Rattle.rules.specs.Response.{segmentOut, out, ak1, ak9, blocks, stOut, seOut, told, transactionSet, isaOut, gsOut, geOut, ieaOut, respond, response}
+use Rattle.rules.specs.declared.Call.{Call}
 use Rattle.rules.specs.declared.Delimiters.{Delimiters}
 use Rattle.rules.proofs.Facts.{reports-count}
 use Rattle.rules.proofs.Lengths.{transaction-counted}
 use Rattle.tables.specs.Reading.{Guide}
 use Rattle.text.specs.Text.{part}
-use Rattle.frame.specs.declared.Frame.{Frame}
-use Rattle.frame.proofs.Laws.{trailerIn, FrameIs}
+use Rattle.envelope.specs.declared.Frame.{Frame}
+use Rattle.envelope.proofs.Laws.{trailerIn, FrameIs}
 use Rattle.verdicts.specs.Collecting.{codesOf, collected}
 use Rattle.verdicts.specs.Verdicts.{trailerIf, groupCodeRules}
 use Rattle.verdicts.specs.declared.Codes.{Codes}
@@ -127,16 +128,16 @@ module _ {d : Delimiters} {i gs body ge : Bytes} {f : Frame} {rows : Guide} {kno
       (one d (seOut (length (told st02 report) + 1) st02) (rw (told-counts k) at se))
 
 -- 3. The response, by its pieces.
-pub response-made : (date time control : ℕ) {d : Delimiters} {i gs : Bytes} {f : Frame} {n₁ n₂ n₃ n₄ n₅ : ℕ} {o o₁ o₂ o₃ o₄ o₅ : Bytes}
+pub response-made : (call : Call) {d : Delimiters} {i gs : Bytes} {f : Frame} {n₁ n₂ n₃ n₄ n₅ : ℕ} {o o₁ o₂ o₃ o₄ o₅ : Bytes}
     → d ≡ delimiters i → FrameIs d i f → gs ≡ part i (f .gs) (f .«gs_end»)
-    → From 0 (segmentOut d (isaOut d (isa i) date time control)) n₁ o o₁
-    → From n₁ (segmentOut d (gsOut (split (d .element) gs) date time control)) n₂ o₁ o₂
+    → From 0 (segmentOut d (isaOut d (isa i) call)) n₁ o o₁
+    → From n₁ (segmentOut d (gsOut (split (d .element) gs) call)) n₂ o₁ o₂
     → From n₂ (out d (transactionSet (ascii "0001") (groupReport d (groupOf (segments d i))))) n₃ o₂ o₃
     → From n₃ (segmentOut d (geOut 1 control)) n₄ o₃ o₄
     → From n₄ (segmentOut d (ieaOut 1 control)) n₅ o₄ o₅
-    → Wrote (response i date time control) n₅ o o₅
+    → Wrote (response i call) n₅ o o₅
 unfolding response respond out
-response-made date time control {d} {i} e h p isa-out gs-out ts ge-out iea-out =
+response-made call {d} {i} e h p isa-out gs-out ts ge-out iea-out =
     rw (← e)
     (whole
     (seq isa-out

@@ -16,8 +16,8 @@ use Rattle.rules.specs.declared.Delimiters.{Delimiters}
 use Rattle.tables.specs.Reading.{Guide, Limits}
 use Rattle.guides.specs.Encoded.{directoryRows}
 use Rattle.text.specs.Text.{part}
-use Rattle.frame.specs.declared.Frame.{Frame}
-use Rattle.frame.proofs.Laws.{FrameIs}
+use Rattle.envelope.specs.declared.Frame.{Frame}
+use Rattle.envelope.proofs.Laws.{FrameIs}
 use Rattle.sets.proofs.Refused.{Passed}
 use Rattle.verdicts.specs.Collecting.{codesOf, collected}
 use Rattle.verdicts.specs.Verdicts.{groupCodeRules}

@@ -13,7 +13,7 @@ ghost use Rattle.rules.specs.Answers.{Allowed, fitting, buffer, called};
 ghost use Rattle.tables.specs.Reading.{Limits};
 ghost use Rattle.guides.specs.Encoded.{directoryRows};
 ghost use Rattle.text.specs.Text.{part};
-ghost use Rattle.frame.proofs.Laws.{FrameIs};
+ghost use Rattle.envelope.proofs.Laws.{FrameIs};
 ghost use Rattle.sets.specs.Places.{setAt, controlAt};
 ghost use Rattle.sets.proofs.Sets.{SetIs};
 ghost use Rattle.register.proofs.Entered.{Entered};
@@ -25,11 +25,12 @@ ghost use Rattle.writing.specs.Over.{Wrote, From};
 ghost use Rattle.notes.specs.Saying.{Tells};
 ghost use Rattle.acknowledgment.specs.Writers.{TellsFrom, Measures, tableWith, summary, Answerable};
 ghost use Rattle.acknowledgment.specs.Surveys.{Room, EnteredNext, setHere, reportAt, reports, markOf, Marked, acceptance, Surveyed, Open};
-use frame::Frame;
+use envelope::Frame;
 use notes::Told;
 use refusals::Checked;
 use register::Found;
 use rules::Answer;
+use rules::Call;
 use rules::Delimiters;
 use sets::SetAt;
 use verdicts::Edition;
@@ -59,13 +60,6 @@ struct Survey {
     accepted: usize,
     length: usize,
     segments: usize,
-}
-
-// The caller's numbers: the date, the time and the control number of the response.
-struct Caller {
-    date: u32,
-    time: u32,
-    control: u32,
 }
 
 // Whether a set before the one at `at`, which is set k, has its ST02, `control`. The set is entered for those after it.
@@ -427,15 +421,15 @@ fn put_response(
     starts: &[u16],
     marks: &[u8],
     survey: Survey,
-    caller: Caller,
+    call: Call,
 ) -> usize
     requires { ⌜ (d ≡ cutting.delimiters (now i)) × ((Answerable d (now i) f (now guide) known) × Surveyed d (tableWith known (now guide)) (part (now i) (f .body) (f .«body_end»)) (now starts) (now marks) survey) ⌝ }
-    ensures { λ r. ⌜ Wrote (text.response (now (i .entry)) (caller .date) (caller .time) (caller .control)) r (now (out .entry)) (now (out .exit)) ⌝ }
+    ensures { λ r. ⌜ Wrote (text.response (now (i .entry)) call) r (now (out .entry)) (now (out .exit)) ⌝ }
 {
     let gs = text::part(i, f.gs, f.gs_end);
-    let control = caller.control;
-    let n = response_envelope::add_isa(out, 0, d, i, caller.date, caller.time, control);
-    let n = response_envelope::add_gs(out, n, d, gs, caller.date, caller.time, control);
+    let control = call.control;
+    let n = response_envelope::add_isa(out, 0, d, i, call);
+    let n = response_envelope::add_gs(out, n, d, gs, call);
     let n = add_transaction_set(out, n, i, d, f, guide, known, starts, marks, survey);
     let n = response_envelope::add_ge(out, n, d, 1, control);
     response_envelope::add_iea(out, n, d, 1, control)
@@ -449,10 +443,10 @@ fn respond(
     f: Frame,
     guide: &[[u16; 6]],
     known: bool,
-    caller: Caller,
+    call: Call,
 ) -> Answer
     requires { ⌜ (d ≡ cutting.delimiters (now i)) × Answerable d (now i) f (now guide) known ⌝ }
-    ensures { λ r. ⌜ (r ≡ fitting (text.response (now (i .entry)) (caller .date) (caller .time) (caller .control)) (length (now (out .entry)))) × (now (out .exit) ≡ buffer r (text.response (now (i .entry)) (caller .date) (caller .time) (caller .control)) (now (out .entry))) ⌝ }
+    ensures { λ r. ⌜ (r ≡ fitting (text.response (now (i .entry)) call) (length (now (out .entry)))) × (now (out .exit) ≡ buffer r (text.response (now (i .entry)) call) (now (out .entry))) ⌝ }
 {
     let mut starts: [u16; MOST_SETS] = [0; MOST_SETS];
     let mut marks: [u8; MOST_SETS] = [0; MOST_SETS];
@@ -468,57 +462,44 @@ fn respond(
         &starts,
         &marks,
         survey,
-        caller,
+        call,
     );
     if out.len() < needed {
         return Answer::TooLong(needed);
     }
-    Answer::Written(put_response(out, i, d, f, guide, known, &starts, &marks, survey, caller))
+    Answer::Written(put_response(out, i, d, f, guide, known, &starts, &marks, survey, call))
 }
 
 // The answer to a sound interchange, by the table of the group's edition.
-fn answer_group(out: &mut [u8], i: &[u8], f: Frame, caller: Caller) -> Answer
-    requires { ⌜ (refusal (now i) (caller .date) (caller .time) (caller .control) ≡ 0) × FrameIs (cutting.delimiters (now i)) (now i) f ⌝ }
-    ensures { λ r. ⌜ Allowed (now (i .entry)) (now (out .entry)) (caller .date) (caller .time) (caller .control) r (now (out .exit)) ⌝ }
+fn answer_group(out: &mut [u8], i: &[u8], f: Frame, call: Call) -> Answer
+    requires { ⌜ (refusal (now i) call ≡ 0) × FrameIs (cutting.delimiters (now i)) (now i) f ⌝ }
+    ensures { λ r. ⌜ Allowed (now (i .entry)) (now (out .entry)) call r (now (out .exit)) ⌝ }
 {
-    let d = envelope::delimiters(i);
+    let d = isa::delimiters(i);
     let gs = text::part(i, f.gs, f.gs_end);
     let known = verdicts::is_supported(segments::field(gs, d.element, 1));
     match verdicts::edition_of(segments::field(gs, d.element, 8)) {
         Edition::E006010 => {
             let guide = guides::guide_006010();
-            respond(out, i, d, f, &guide, known, caller)
+            respond(out, i, d, f, &guide, known, call)
         }
         Edition::E004010 => {
             let guide = guides::guide_004010();
-            respond(out, i, d, f, &guide, known, caller)
+            respond(out, i, d, f, &guide, known, call)
         }
         Edition::Other => {
             let guide = guides::guide_004010();
-            respond(out, i, d, f, &guide, false, caller)
+            respond(out, i, d, f, &guide, false, call)
         }
     }
 }
 
 // The answer to one interchange.
-pub fn acknowledge(
-    interchange: &[u8],
-    response: &mut [u8],
-    date: u32,
-    time: u32,
-    control: u32,
-) -> Answer
-    ensures { λ r. ⌜ Allowed (now (interchange .entry)) (now (response .entry)) date time control r (now (response .exit)) ⌝ }
+pub fn acknowledge(interchange: &[u8], response: &mut [u8], call: Call) -> Answer
+    ensures { λ r. ⌜ Allowed (now (interchange .entry)) (now (response .entry)) call r (now (response .exit)) ⌝ }
 {
-    match refusals::check(interchange, date, time, control) {
-        Checked::Sound(f) => {
-            let caller = Caller {
-                date,
-                time,
-                control,
-            };
-            answer_group(response, interchange, f, caller)
-        }
+    match refusals::check(interchange, call) {
+        Checked::Sound(f) => answer_group(response, interchange, f, call),
         Checked::Refused(n) => Answer::Refused(n),
     }
 }
@@ -533,9 +514,14 @@ pub extern "C" fn x12_acknowledge(
     control: u32,
     length: &mut usize,
 ) -> u32
-    ensures { λ r. ⌜ record { number = r; size = now (length .exit); buffer = now (response .exit) } ≡ called (now (interchange .entry)) (now (response .entry)) date time control ⌝ }
+    ensures { λ r. ⌜ record { number = r; size = now (length .exit); buffer = now (response .exit) } ≡ called (now (interchange .entry)) (now (response .entry)) (record { date = date; time = time; control = control }) ⌝ }
 {
-    match acknowledge(interchange, response, date, time, control) {
+    let call = Call {
+        date,
+        time,
+        control,
+    };
+    match acknowledge(interchange, response, call) {
         Answer::Written(n) => {
             *length = n;
             0

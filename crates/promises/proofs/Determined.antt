@@ -29,17 +29,17 @@ use Rattle.text.proofs.all_valid.Reads as text-all-valid
 use Rattle.text.proofs.is_text.Reads as text-is-text
 use Rattle.text.proofs.is_name.Reads as text-is-name
 use Rattle.text.proofs.unsigned.Reads as text-unsigned
-use Rattle.envelope.proofs.call_refusal.Reads as envelope-call-refusal
-use Rattle.envelope.proofs.head_refusal.Reads as envelope-head-refusal
-use Rattle.envelope.proofs.end_refusal.Reads as envelope-end-refusal
-use Rattle.envelope.proofs.delimiters.Reads as envelope-delimiters
-use Rattle.envelope.proofs.isa_field.Reads as envelope-isa-field
+use Rattle.caller.proofs.call_refusal.Reads as caller-call-refusal
+use Rattle.isa.proofs.head_refusal.Reads as isa-head-refusal
+use Rattle.isa.proofs.end_refusal.Reads as isa-end-refusal
+use Rattle.isa.proofs.delimiters.Reads as isa-delimiters
+use Rattle.isa.proofs.isa_field.Reads as isa-isa-field
 use Rattle.segments.proofs.field.Reads as segments-field
 use Rattle.segments.proofs.id.Reads as segments-id
 use Rattle.segments.proofs.is_named.Reads as segments-is-named
 use Rattle.segments.proofs.is_present.Reads as segments-is-present
 use Rattle.segments.proofs.field_count.Reads as segments-field-count
-use Rattle.frame.proofs.frame_of.Reads as frame-frame-of
+use Rattle.envelope.proofs.frame_of.Reads as envelope-frame-of
 use Rattle.headers.proofs.trailer_refusal.Reads as headers-trailer-refusal
 use Rattle.headers.proofs.header_refusal.Reads as headers-header-refusal
 use Rattle.headers.proofs.answer_refusal.Reads as headers-answer-refusal
@@ -190,21 +190,22 @@ text-is-name-once κs a r₁ r₂ s₁ s₂ p q = p ∙ sym q
 text-unsigned-once : Once text-unsigned.Post (λ κs r s. now r)
 text-unsigned-once κs a r₁ r₂ s₁ s₂ p q = p ∙ sym q
 
--- envelope
-envelope-call-refusal-once : Once envelope-call-refusal.Post (λ κs r s. r)
-envelope-call-refusal-once κs a r₁ r₂ s₁ s₂ p q = p ∙ sym q
+-- caller
+caller-call-refusal-once : Once caller-call-refusal.Post (λ κs r s. r)
+caller-call-refusal-once κs a r₁ r₂ s₁ s₂ p q = p ∙ sym q
 
-envelope-head-refusal-once : Once envelope-head-refusal.Post (λ κs r s. r)
-envelope-head-refusal-once κs a r₁ r₂ s₁ s₂ p q = p ∙ sym q
+-- isa
+isa-head-refusal-once : Once isa-head-refusal.Post (λ κs r s. r)
+isa-head-refusal-once κs a r₁ r₂ s₁ s₂ p q = p ∙ sym q
 
-envelope-end-refusal-once : Once envelope-end-refusal.Post (λ κs r s. r)
-envelope-end-refusal-once κs a r₁ r₂ s₁ s₂ p q = p ∙ sym q
+isa-end-refusal-once : Once isa-end-refusal.Post (λ κs r s. r)
+isa-end-refusal-once κs a r₁ r₂ s₁ s₂ p q = p ∙ sym q
 
-envelope-delimiters-once : Once envelope-delimiters.Post (λ κs r s. r)
-envelope-delimiters-once κs a r₁ r₂ s₁ s₂ p q = p ∙ sym q
+isa-delimiters-once : Once isa-delimiters.Post (λ κs r s. r)
+isa-delimiters-once κs a r₁ r₂ s₁ s₂ p q = p ∙ sym q
 
-envelope-isa-field-once : Once envelope-isa-field.Post (λ κs r s. now r)
-envelope-isa-field-once κs a r₁ r₂ s₁ s₂ p q = p ∙ sym q
+isa-isa-field-once : Once isa-isa-field.Post (λ κs r s. now r)
+isa-isa-field-once κs a r₁ r₂ s₁ s₂ p q = p ∙ sym q
 
 -- segments
 segments-field-once : Once segments-field.Post (λ κs r s. now r)
@@ -222,9 +223,9 @@ segments-is-present-once κs a r₁ r₂ s₁ s₂ p q = p ∙ sym q
 segments-field-count-once : Once segments-field-count.Post (λ κs r s. r)
 segments-field-count-once κs a r₁ r₂ s₁ s₂ p q = p ∙ sym q
 
--- frame
-frame-frame-of-once : Once frame-frame-of.Post (λ κs r s. r)
-frame-frame-of-once κs a r₁ r₂ s₁ s₂ p q = p ∙ sym q
+-- envelope
+envelope-frame-of-once : Once envelope-frame-of.Post (λ κs r s. r)
+envelope-frame-of-once κs a r₁ r₂ s₁ s₂ p q = p ∙ sym q
 
 -- headers
 headers-trailer-refusal-once : Once headers-trailer-refusal.Post (λ κs r s. r)

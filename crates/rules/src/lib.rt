@@ -96,6 +96,13 @@ impl Finding {
     }
 }
 
+// The caller's numbers: the date CCYYMMDD, the time HHMM and the control number of the response.
+pub struct Call {
+    pub date: u32,
+    pub time: u32,
+    pub control: u32,
+}
+
 // What a caller gets: the response with its length, a refusal with its number, or the length that the buffer lacks.
 pub enum Answer {
     Written(usize),
