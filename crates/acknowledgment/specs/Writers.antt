@@ -8,7 +8,8 @@ use lib.ListN.{length}
 use Rattle.rules.specs.Base.{Bytes, ascii, same, if_then_else_}
 use Rattle.rules.specs.Cutting.{Segment, field, split, segments}
 use Rattle.rules.specs.Numbers.{decimal}
-use Rattle.rules.specs.Tables.{Table, tableOf}
+use Rattle.rules.specs.Tables.{Table}
+use Rattle.tables.specs.Rows.{tableOf}
 use Rattle.rules.specs.Sets.{Set, declaredIn}
 use Rattle.rules.specs.Groups.{groupOf, tableIn, groupReport, verdict, or-else}
 use Rattle.rules.specs.Response.{out, transactionSet}
