@@ -65,6 +65,19 @@ over-clip (suc n) (x ∷ t) (y ∷ o) h = ap (λ (l : Bytes). x ∷ l) (over-cli
 pub over-whole : (t o out : Bytes) (i : ℕ) → out ≡ over (take i t) o → min (length t) (length o) ≤ i → out ≡ over t o
 over-whole t o out i e h = e ∙ over-clip i t o h
 
+-- no byte is stored past the end
+pub set-past : (o : Bytes) (i b : ℕ) → length o ≤ i → set o i b ≡ o
+set-past [] i b h = refl
+set-past (y ∷ o) zero b h = absurd (not-suc-le-zero h)
+set-past (y ∷ o) (suc i) b h = ap (λ (l : Bytes). y ∷ l) (set-past o i b (le-of-suc-le-suc h))
+
+-- a text whose last byte stands already
+pub over-last : (t : Bytes) (b : ℕ) (o : Bytes) → over (t ++ b ∷ []) o ≡ over t (set o (length t) b)
+unfolding over
+over-last [] b o = over-byte b o
+over-last (x ∷ t) b [] = refl
+over-last (x ∷ t) b (y ∷ o) = ap (λ (l : Bytes). x ∷ l) (over-last t b o)
+
 -- 2. From byte n on.
 pub from-zero : (t o : Bytes) → from 0 t o ≡ over t o
 unfolding from

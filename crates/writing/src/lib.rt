@@ -3,6 +3,7 @@
 ghost use mathlib.Core.Path.{_≡_};
 ghost use mathlib.Core.List.{[], _∷_, map};
 ghost use Prim.Native.Nat.{_+_, min};
+ghost use lib.ListN.{set};
 ghost use Rattle.rules.specs.Numbers.{decimal, padded};
 ghost use Rattle.rules.specs.Response.{fieldsOut, segmentOut};
 ghost use Rattle.writing.specs.Over.{sat, Wrote, From};
@@ -66,27 +67,47 @@ pub fn add_bytes(out: &mut [u8], n: usize, bytes: &[u8]) -> usize
     joined(n, m)
 }
 
+// A byte at a place, where there is one.
+fn set_byte(out: &mut [u8], at: usize, b: u8)
+    ensures { λ r. ⌜ now (out .exit) ≡ set (now (out .entry)) at b ⌝ }
+{
+    if at < out.len() {
+        out[at] = b;
+    }
+}
+
+// The last w digits of a number, from the last one on.
+fn put_padded(out: &mut [u8], v: u64, w: usize) -> usize
+    ensures { λ r. ⌜ Wrote (padded w v) r (now (out .entry)) (now (out .exit)) ⌝ }
+{
+    let mut rest = v;
+    let mut i = w;
+    while 0 < i {
+        i -= 1;
+        set_byte(out, i, b'0' + (rest % 10) as u8);
+        rest /= 10;
+    }
+    w
+}
+
+// How many digits a number has without leading zeros.
+fn digit_count(v: u64) -> usize
+    ensures { λ r. ⌜ padded r v ≡ decimal v ⌝ }
+{
+    let mut more = 0;
+    let mut rest = v;
+    while 10 <= rest {
+        rest /= 10;
+        more += 1;
+    }
+    more + 1
+}
+
 // A number without leading zeros.
 fn put_number(out: &mut [u8], v: u64) -> usize
     ensures { λ r. ⌜ Wrote (decimal v) r (now (out .entry)) (now (out .exit)) ⌝ }
 {
-    let digit = b'0' + (v % 10) as u8;
-    if v < 10 {
-        return put_byte(out, digit);
-    }
-    let n = put_number(out, v / 10);
-    add_byte(out, n, digit)
-}
-
-// The last w digits of a number.
-fn put_padded(out: &mut [u8], v: u64, w: usize) -> usize
-    ensures { λ r. ⌜ Wrote (padded w v) r (now (out .entry)) (now (out .exit)) ⌝ }
-{
-    if w == 0 {
-        return 0;
-    }
-    let n = put_padded(out, v / 10, w - 1);
-    add_byte(out, n, b'0' + (v % 10) as u8)
+    put_padded(out, v, digit_count(v))
 }
 
 // A number without leading zeros, after n bytes.
