@@ -175,8 +175,11 @@ fn bits_of(control: &[u8]) -> u128 {
     bytes.fold(0, |bits, &byte| bits << 8 | u128::from(byte))
 }
 
+/// Four lower-case letters, which no case has that this is tried on.
 fn new_number(set: usize) -> Vec<u8> {
-    format!("NEW{set:06}").into_bytes()
+    [1, 26, 676, 17_576]
+        .map(|power| b'a' + (set / power % 26) as u8)
+        .to_vec()
 }
 
 #[test]

@@ -56,7 +56,7 @@ pub fn many_sets(prng: &mut Prng) -> Draft {
         5 => control_numbers::of_one_bucket("", count),
         _ => (0..count).map(|n| format!("{n:04}").into_bytes()).collect(),
     };
-    for _ in 0..prng.below(6) {
+    for _ in 0..prng.below(12) {
         let (one, other) = (place(prng, count), place(prng, count));
         numbers[one.max(other)] = numbers[one.min(other)].clone();
     }
