@@ -111,347 +111,346 @@ use Rattle.acknowledgment.proofs.acknowledge.Reads as acknowledgment-acknowledg
 use Rattle.acknowledgment.proofs.x12_acknowledge.Reads as acknowledgment-x12-acknowledge
 use Rattle.exchange.proofs.exchange.Reads as exchange-exchange
 
--- 1. What a caller sees of a result and of what it lent is the same for any two that a contract allows.
-abbrev pub Once {ℓ} : {K : Type ℓ} {A R S W : K → Type 0} → ((κs : K) → A κs → R κs → S κs → Type 0) → ((κs : K) → R κs → S κs → W κs) → Type ℓ
-Once {K = K} {A} {R} {S} post seen =
-    (κs : K) (a : A κs) (r₁ r₂ : R κs) (s₁ s₂ : S κs) → post κs a r₁ s₁ → post κs a r₂ s₂ → seen κs r₁ s₁ ≡ seen κs r₂ s₂
+-- 1. A function asks nothing of any arguments, and what a caller sees of its result and of what it lent is the same for any two outcomes that
+-- its contract allows.
+abbrev pub Determined {ℓ} : {K : Type ℓ} {A R S W : K → Type 0}
+    → ((κs : K) → A κs → Type 0) → ((κs : K) → A κs → R κs → S κs → Type 0) → ((κs : K) → R κs → S κs → W κs) → Type ℓ
+Determined {K = K} {A} {R} {S} pre post seen =
+    ((κs : K) (a : A κs) → pre κs a)
+    × ((κs : K) (a : A κs) (r₁ r₂ : R κs) (s₁ s₂ : S κs) → post κs a r₁ s₁ → post κs a r₂ s₂ → seen κs r₁ s₁ ≡ seen κs r₂ s₂)
 
--- a writer's result, and the buffer that it was lent
-abbrev pub written {ℓ} : {R : Type ℓ} → R → Bytes → R × Bytes
-written r o = (r, o)
+-- what is seen so far, and one more that was lent to be written
+abbrev pub beside : {R W : Type 0} → R → W → R × W
+beside r w = (r, w)
 
-wrote-once : {t o o₁ o₂ : Bytes} {n m : ℕ} → Wrote t n o o₁ → Wrote t m o o₂ → written n o₁ ≡ written m o₂
+wrote-once : {t o o₁ o₂ : Bytes} {n m : ℕ} → Wrote t n o o₁ → Wrote t m o o₂ → beside n o₁ ≡ beside m o₂
 wrote-once p q = rw (p .count, q .count, p .bytes, q .bytes)
 
-from-once : {t o o₁ o₂ : Bytes} {k n m : ℕ} → From k t n o o₁ → From k t m o o₂ → written n o₁ ≡ written m o₂
+from-once : {t o o₁ o₂ : Bytes} {k n m : ℕ} → From k t n o o₁ → From k t m o o₂ → beside n o₁ ≡ beside m o₂
 from-once p q = rw (p .count, q .count, p .bytes, q .bytes)
 
 told-same : {n m k j : ℕ} {o₁ o₂ : Bytes} → n ≡ m → k ≡ j → o₁ ≡ o₂
     → _≡_ {A = Told × Bytes} (record { length = n; segments = k }, o₁) (record { length = m; segments = j }, o₂)
 told-same p q e = rw (p, q, e)
 
-tells-once : {d : Delimiters} {ss : List Segment} {r₁ r₂ : Told} {o o₁ o₂ : Bytes} → Tells d ss r₁ o o₁ → Tells d ss r₂ o o₂ → written r₁ o₁ ≡ written r₂ o₂
+tells-once : {d : Delimiters} {ss : List Segment} {r₁ r₂ : Told} {o o₁ o₂ : Bytes} → Tells d ss r₁ o o₁ → Tells d ss r₂ o o₂ → beside r₁ o₁ ≡ beside r₂ o₂
 tells-once p q =
     told-same (p .text .count ∙ sym (q .text .count)) (p .number ∙ sym (q .number)) (p .text .bytes ∙ sym (q .text .bytes))
 
-both-same {ℓ} : {R : Type ℓ} {r₁ r₂ : R} {o₁ o₂ : Bytes} → r₁ ≡ r₂ → o₁ ≡ o₂ → written r₁ o₁ ≡ written r₂ o₂
+both-same : {R : Type 0} {r₁ r₂ : R} {o₁ o₂ : Bytes} → r₁ ≡ r₂ → o₁ ≡ o₂ → beside r₁ o₁ ≡ beside r₂ o₂
 both-same p q = rw (p, q)
-
--- what the face for C returns, stores and leaves
-abbrev pub outcome : ℕ → ℕ → Bytes → Outcome
-outcome number size buffer = record { number = number; size = size; buffer = buffer }
 
 -- 2. The functions, crate by crate.
 -- rules
-rules-Delimiters-new-once : Once rules-Delimiters-new.Post (λ κs r s. r)
-rules-Delimiters-new-once κs a r₁ r₂ s₁ s₂ p q = p ∙ sym q
+rules-Delimiters-new-once : Determined rules-Delimiters-new.Pre rules-Delimiters-new.Post (λ κs r s. r)
+rules-Delimiters-new-once = ((λ κs a. tt), λ κs a r₁ r₂ s₁ s₂ p q. p ∙ sym q)
 
-rules-Finding-new-once : Once rules-Finding-new.Post (λ κs r s. r)
-rules-Finding-new-once κs a r₁ r₂ s₁ s₂ p q = p ∙ sym q
+rules-Finding-new-once : Determined rules-Finding-new.Pre rules-Finding-new.Post (λ κs r s. r)
+rules-Finding-new-once = ((λ κs a. tt), λ κs a r₁ r₂ s₁ s₂ p q. p ∙ sym q)
 
 -- text
-text-find-once : Once text-find.Post (λ κs r s. r)
-text-find-once κs a r₁ r₂ s₁ s₂ p q = p ∙ sym q
+text-find-once : Determined text-find.Pre text-find.Post (λ κs r s. r)
+text-find-once = ((λ κs a. tt), λ κs a r₁ r₂ s₁ s₂ p q. p ∙ sym q)
 
-text-find-near-once : Once text-find-near.Post (λ κs r s. r)
-text-find-near-once κs a r₁ r₂ s₁ s₂ p q = p ∙ sym q
+text-find-near-once : Determined text-find-near.Pre text-find-near.Post (λ κs r s. r)
+text-find-near-once = ((λ κs a. tt), λ κs a r₁ r₂ s₁ s₂ p q. p ∙ sym q)
 
-text-same-bytes-once : Once text-same-bytes.Post (λ κs r s. r)
-text-same-bytes-once κs a r₁ r₂ s₁ s₂ p q = p ∙ sym q
+text-same-bytes-once : Determined text-same-bytes.Pre text-same-bytes.Post (λ κs r s. r)
+text-same-bytes-once = ((λ κs a. tt), λ κs a r₁ r₂ s₁ s₂ p q. p ∙ sym q)
 
-text-all-digits-once : Once text-all-digits.Post (λ κs r s. r)
-text-all-digits-once κs a r₁ r₂ s₁ s₂ p q = p ∙ sym q
+text-all-digits-once : Determined text-all-digits.Pre text-all-digits.Post (λ κs r s. r)
+text-all-digits-once = ((λ κs a. tt), λ κs a r₁ r₂ s₁ s₂ p q. p ∙ sym q)
 
-text-is-digits-once : Once text-is-digits.Post (λ κs r s. r)
-text-is-digits-once κs a r₁ r₂ s₁ s₂ p q = p ∙ sym q
+text-is-digits-once : Determined text-is-digits.Pre text-is-digits.Post (λ κs r s. r)
+text-is-digits-once = ((λ κs a. tt), λ κs a r₁ r₂ s₁ s₂ p q. p ∙ sym q)
 
-text-value-once : Once text-value.Post (λ κs r s. r)
-text-value-once κs a r₁ r₂ s₁ s₂ p q = p ∙ sym q
+text-value-once : Determined text-value.Pre text-value.Post (λ κs r s. r)
+text-value-once = ((λ κs a. tt), λ κs a r₁ r₂ s₁ s₂ p q. p ∙ sym q)
 
-text-count-in-once : Once text-count-in.Post (λ κs r s. r)
-text-count-in-once κs a r₁ r₂ s₁ s₂ p q = p ∙ sym q
+text-count-in-once : Determined text-count-in.Pre text-count-in.Post (λ κs r s. r)
+text-count-in-once = ((λ κs a. tt), λ κs a r₁ r₂ s₁ s₂ p q. p ∙ sym q)
 
-text-declares-once : Once text-declares.Post (λ κs r s. r)
-text-declares-once κs a r₁ r₂ s₁ s₂ p q = p ∙ sym q
+text-declares-once : Determined text-declares.Pre text-declares.Post (λ κs r s. r)
+text-declares-once = ((λ κs a. tt), λ κs a r₁ r₂ s₁ s₂ p q. p ∙ sym q)
 
-text-is-day-once : Once text-is-day.Post (λ κs r s. r)
-text-is-day-once κs a r₁ r₂ s₁ s₂ p q = p ∙ sym q
+text-is-day-once : Determined text-is-day.Pre text-is-day.Post (λ κs r s. r)
+text-is-day-once = ((λ κs a. tt), λ κs a r₁ r₂ s₁ s₂ p q. p ∙ sym q)
 
-text-is-date-once : Once text-is-date.Post (λ κs r s. r)
-text-is-date-once κs a r₁ r₂ s₁ s₂ p q = p ∙ sym q
+text-is-date-once : Determined text-is-date.Pre text-is-date.Post (λ κs r s. r)
+text-is-date-once = ((λ κs a. tt), λ κs a r₁ r₂ s₁ s₂ p q. p ∙ sym q)
 
-text-is-time-once : Once text-is-time.Post (λ κs r s. r)
-text-is-time-once κs a r₁ r₂ s₁ s₂ p q = p ∙ sym q
+text-is-time-once : Determined text-is-time.Pre text-is-time.Post (λ κs r s. r)
+text-is-time-once = ((λ κs a. tt), λ κs a r₁ r₂ s₁ s₂ p q. p ∙ sym q)
 
-text-find-invalid-once : Once text-find-invalid.Post (λ κs r s. r)
-text-find-invalid-once κs a r₁ r₂ s₁ s₂ p q = p ∙ sym q
+text-find-invalid-once : Determined text-find-invalid.Pre text-find-invalid.Post (λ κs r s. r)
+text-find-invalid-once = ((λ κs a. tt), λ κs a r₁ r₂ s₁ s₂ p q. p ∙ sym q)
 
-text-all-valid-once : Once text-all-valid.Post (λ κs r s. r)
-text-all-valid-once κs a r₁ r₂ s₁ s₂ p q = p ∙ sym q
+text-all-valid-once : Determined text-all-valid.Pre text-all-valid.Post (λ κs r s. r)
+text-all-valid-once = ((λ κs a. tt), λ κs a r₁ r₂ s₁ s₂ p q. p ∙ sym q)
 
-text-is-text-once : Once text-is-text.Post (λ κs r s. r)
-text-is-text-once κs a r₁ r₂ s₁ s₂ p q = p ∙ sym q
+text-is-text-once : Determined text-is-text.Pre text-is-text.Post (λ κs r s. r)
+text-is-text-once = ((λ κs a. tt), λ κs a r₁ r₂ s₁ s₂ p q. p ∙ sym q)
 
-text-is-name-once : Once text-is-name.Post (λ κs r s. r)
-text-is-name-once κs a r₁ r₂ s₁ s₂ p q = p ∙ sym q
+text-is-name-once : Determined text-is-name.Pre text-is-name.Post (λ κs r s. r)
+text-is-name-once = ((λ κs a. tt), λ κs a r₁ r₂ s₁ s₂ p q. p ∙ sym q)
 
-text-unsigned-once : Once text-unsigned.Post (λ κs r s. now r)
-text-unsigned-once κs a r₁ r₂ s₁ s₂ p q = p ∙ sym q
+text-unsigned-once : Determined text-unsigned.Pre text-unsigned.Post (λ κs r s. now r)
+text-unsigned-once = ((λ κs a. tt), λ κs a r₁ r₂ s₁ s₂ p q. p ∙ sym q)
 
 -- caller
-caller-call-refusal-once : Once caller-call-refusal.Post (λ κs r s. r)
-caller-call-refusal-once κs a r₁ r₂ s₁ s₂ p q = p ∙ sym q
+caller-call-refusal-once : Determined caller-call-refusal.Pre caller-call-refusal.Post (λ κs r s. r)
+caller-call-refusal-once = ((λ κs a. tt), λ κs a r₁ r₂ s₁ s₂ p q. p ∙ sym q)
 
 -- isa
-isa-head-refusal-once : Once isa-head-refusal.Post (λ κs r s. r)
-isa-head-refusal-once κs a r₁ r₂ s₁ s₂ p q = p ∙ sym q
+isa-head-refusal-once : Determined isa-head-refusal.Pre isa-head-refusal.Post (λ κs r s. r)
+isa-head-refusal-once = ((λ κs a. tt), λ κs a r₁ r₂ s₁ s₂ p q. p ∙ sym q)
 
-isa-end-refusal-once : Once isa-end-refusal.Post (λ κs r s. r)
-isa-end-refusal-once κs a r₁ r₂ s₁ s₂ p q = p ∙ sym q
+isa-end-refusal-once : Determined isa-end-refusal.Pre isa-end-refusal.Post (λ κs r s. r)
+isa-end-refusal-once = ((λ κs a. tt), λ κs a r₁ r₂ s₁ s₂ p q. p ∙ sym q)
 
-isa-delimiters-once : Once isa-delimiters.Post (λ κs r s. r)
-isa-delimiters-once κs a r₁ r₂ s₁ s₂ p q = p ∙ sym q
+isa-delimiters-once : Determined isa-delimiters.Pre isa-delimiters.Post (λ κs r s. r)
+isa-delimiters-once = ((λ κs a. tt), λ κs a r₁ r₂ s₁ s₂ p q. p ∙ sym q)
 
-isa-isa-field-once : Once isa-isa-field.Post (λ κs r s. now r)
-isa-isa-field-once κs a r₁ r₂ s₁ s₂ p q = p ∙ sym q
+isa-isa-field-once : Determined isa-isa-field.Pre isa-isa-field.Post (λ κs r s. now r)
+isa-isa-field-once = ((λ κs a. tt), λ κs a r₁ r₂ s₁ s₂ p q. p ∙ sym q)
 
 -- segments
-segments-field-once : Once segments-field.Post (λ κs r s. now r)
-segments-field-once κs a r₁ r₂ s₁ s₂ p q = p ∙ sym q
+segments-field-once : Determined segments-field.Pre segments-field.Post (λ κs r s. now r)
+segments-field-once = ((λ κs a. tt), λ κs a r₁ r₂ s₁ s₂ p q. p ∙ sym q)
 
-segments-id-once : Once segments-id.Post (λ κs r s. now r)
-segments-id-once κs a r₁ r₂ s₁ s₂ p q = p ∙ sym q
+segments-id-once : Determined segments-id.Pre segments-id.Post (λ κs r s. now r)
+segments-id-once = ((λ κs a. tt), λ κs a r₁ r₂ s₁ s₂ p q. p ∙ sym q)
 
-segments-is-named-once : Once segments-is-named.Post (λ κs r s. r)
-segments-is-named-once κs a r₁ r₂ s₁ s₂ p q = p ∙ sym q
+segments-is-named-once : Determined segments-is-named.Pre segments-is-named.Post (λ κs r s. r)
+segments-is-named-once = ((λ κs a. tt), λ κs a r₁ r₂ s₁ s₂ p q. p ∙ sym q)
 
-segments-is-present-once : Once segments-is-present.Post (λ κs r s. r)
-segments-is-present-once κs a r₁ r₂ s₁ s₂ p q = p ∙ sym q
+segments-is-present-once : Determined segments-is-present.Pre segments-is-present.Post (λ κs r s. r)
+segments-is-present-once = ((λ κs a. tt), λ κs a r₁ r₂ s₁ s₂ p q. p ∙ sym q)
 
-segments-field-count-once : Once segments-field-count.Post (λ κs r s. r)
-segments-field-count-once κs a r₁ r₂ s₁ s₂ p q = p ∙ sym q
+segments-field-count-once : Determined segments-field-count.Pre segments-field-count.Post (λ κs r s. r)
+segments-field-count-once = ((λ κs a. tt), λ κs a r₁ r₂ s₁ s₂ p q. p ∙ sym q)
 
 -- envelope
-envelope-frame-of-once : Once envelope-frame-of.Post (λ κs r s. r)
-envelope-frame-of-once κs a r₁ r₂ s₁ s₂ p q = p ∙ sym q
+envelope-frame-of-once : Determined envelope-frame-of.Pre envelope-frame-of.Post (λ κs r s. r)
+envelope-frame-of-once = ((λ κs a. tt), λ κs a r₁ r₂ s₁ s₂ p q. p ∙ sym q)
 
 -- headers
-headers-trailer-refusal-once : Once headers-trailer-refusal.Post (λ κs r s. r)
-headers-trailer-refusal-once κs a r₁ r₂ s₁ s₂ p q = p ∙ sym q
+headers-trailer-refusal-once : Determined headers-trailer-refusal.Pre headers-trailer-refusal.Post (λ κs r s. r)
+headers-trailer-refusal-once = ((λ κs a. tt), λ κs a r₁ r₂ s₁ s₂ p q. p ∙ sym q)
 
-headers-header-refusal-once : Once headers-header-refusal.Post (λ κs r s. r)
-headers-header-refusal-once κs a r₁ r₂ s₁ s₂ p q = p ∙ sym q
+headers-header-refusal-once : Determined headers-header-refusal.Pre headers-header-refusal.Post (λ κs r s. r)
+headers-header-refusal-once = ((λ κs a. tt), λ κs a r₁ r₂ s₁ s₂ p q. p ∙ sym q)
 
-headers-answer-refusal-once : Once headers-answer-refusal.Post (λ κs r s. r)
-headers-answer-refusal-once κs a r₁ r₂ s₁ s₂ p q = p ∙ sym q
+headers-answer-refusal-once : Determined headers-answer-refusal.Pre headers-answer-refusal.Post (λ κs r s. r)
+headers-answer-refusal-once = ((λ κs a. tt), λ κs a r₁ r₂ s₁ s₂ p q. p ∙ sym q)
 
 -- sets
-sets-next-set-once : Once sets-next-set.Post (λ κs r s. r)
-sets-next-set-once κs a r₁ r₂ s₁ s₂ p q = p ∙ sym q
+sets-next-set-once : Determined sets-next-set.Pre sets-next-set.Post (λ κs r s. r)
+sets-next-set-once = ((λ κs a. tt), λ κs a r₁ r₂ s₁ s₂ p q. p ∙ sym q)
 
-text-part-once : Once text-part.Post (λ κs r s. now r)
-text-part-once κs a r₁ r₂ s₁ s₂ p q = p ∙ sym q
+text-part-once : Determined text-part.Pre text-part.Post (λ κs r s. now r)
+text-part-once = ((λ κs a. tt), λ κs a r₁ r₂ s₁ s₂ p q. p ∙ sym q)
 
-sets-set-refusal-once : Once sets-set-refusal.Post (λ κs r s. r)
-sets-set-refusal-once κs a r₁ r₂ s₁ s₂ p q = p ∙ sym q
+sets-set-refusal-once : Determined sets-set-refusal.Pre sets-set-refusal.Post (λ κs r s. r)
+sets-set-refusal-once = ((λ κs a. tt), λ κs a r₁ r₂ s₁ s₂ p q. p ∙ sym q)
 
 -- register
-register-search-once : Once register-search.Post (λ κs r s. r)
-register-search-once κs a r₁ r₂ s₁ s₂ p q = p ∙ sym q
+register-search-once : Determined register-search.Pre register-search.Post (λ κs r s. r)
+register-search-once = ((λ κs a. tt), λ κs a r₁ r₂ s₁ s₂ p q. p ∙ sym q)
 
 -- refusals
-refusals-check-once : Once refusals-check.Post (λ κs r s. r)
-refusals-check-once κs a r₁ r₂ s₁ s₂ p q = p ∙ sym q
+refusals-check-once : Determined refusals-check.Pre refusals-check.Post (λ κs r s. r)
+refusals-check-once = ((λ κs a. tt), λ κs a r₁ r₂ s₁ s₂ p q. p ∙ sym q)
 
 -- verdicts
-verdicts-Codes-is-empty-once : Once verdicts-Codes-is-empty.Post (λ κs r s. r)
-verdicts-Codes-is-empty-once κs a r₁ r₂ s₁ s₂ p q = p ∙ sym q
+verdicts-Codes-is-empty-once : Determined verdicts-Codes-is-empty.Pre verdicts-Codes-is-empty.Post (λ κs r s. r)
+verdicts-Codes-is-empty-once = ((λ κs a. tt), λ κs a r₁ r₂ s₁ s₂ p q. p ∙ sym q)
 
-verdicts-set-codes-once : Once verdicts-set-codes.Post (λ κs r s. r)
-verdicts-set-codes-once κs a r₁ r₂ s₁ s₂ p q = p ∙ sym q
+verdicts-set-codes-once : Determined verdicts-set-codes.Pre verdicts-set-codes.Post (λ κs r s. r)
+verdicts-set-codes-once = ((λ κs a. tt), λ κs a r₁ r₂ s₁ s₂ p q. p ∙ sym q)
 
-verdicts-edition-of-once : Once verdicts-edition-of.Post (λ κs r s. r)
-verdicts-edition-of-once κs a r₁ r₂ s₁ s₂ p q = p ∙ sym q
+verdicts-edition-of-once : Determined verdicts-edition-of.Pre verdicts-edition-of.Post (λ κs r s. r)
+verdicts-edition-of-once = ((λ κs a. tt), λ κs a r₁ r₂ s₁ s₂ p q. p ∙ sym q)
 
-verdicts-is-supported-once : Once verdicts-is-supported.Post (λ κs r s. r)
-verdicts-is-supported-once κs a r₁ r₂ s₁ s₂ p q = p ∙ sym q
+verdicts-is-supported-once : Determined verdicts-is-supported.Pre verdicts-is-supported.Post (λ κs r s. r)
+verdicts-is-supported-once = ((λ κs a. tt), λ κs a r₁ r₂ s₁ s₂ p q. p ∙ sym q)
 
-verdicts-is-load-response-once : Once verdicts-is-load-response.Post (λ κs r s. r)
-verdicts-is-load-response-once κs a r₁ r₂ s₁ s₂ p q = p ∙ sym q
+verdicts-is-load-response-once : Determined verdicts-is-load-response.Pre verdicts-is-load-response.Post (λ κs r s. r)
+verdicts-is-load-response-once = ((λ κs a. tt), λ κs a r₁ r₂ s₁ s₂ p q. p ∙ sym q)
 
-verdicts-group-codes-once : Once verdicts-group-codes.Post (λ κs r s. r)
-verdicts-group-codes-once κs a r₁ r₂ s₁ s₂ p q = p ∙ sym q
+verdicts-group-codes-once : Determined verdicts-group-codes.Pre verdicts-group-codes.Post (λ κs r s. r)
+verdicts-group-codes-once = ((λ κs a. tt), λ κs a r₁ r₂ s₁ s₂ p q. p ∙ sym q)
 
-verdicts-declared-sets-once : Once verdicts-declared-sets.Post (λ κs r s. r)
-verdicts-declared-sets-once κs a r₁ r₂ s₁ s₂ p q = p ∙ sym q
+verdicts-declared-sets-once : Determined verdicts-declared-sets.Pre verdicts-declared-sets.Post (λ κs r s. r)
+verdicts-declared-sets-once = ((λ κs a. tt), λ κs a r₁ r₂ s₁ s₂ p q. p ∙ sym q)
 
-verdicts-verdict-once : Once verdicts-verdict.Post (λ κs r s. r)
-verdicts-verdict-once κs a r₁ r₂ s₁ s₂ p q = ap (λ (l : List ℕ). getD l 0 0) (p ∙ sym q)
+verdicts-verdict-once : Determined verdicts-verdict.Pre verdicts-verdict.Post (λ κs r s. r)
+verdicts-verdict-once = ((λ κs a. tt), λ κs a r₁ r₂ s₁ s₂ p q. ap (λ (l : List ℕ). getD l 0 0) (p ∙ sym q))
 
-verdicts-allowed-once : Once verdicts-allowed.Post (λ κs r s. r)
-verdicts-allowed-once κs a r₁ r₂ s₁ s₂ p q = p ∙ sym q
+verdicts-allowed-once : Determined verdicts-allowed.Pre verdicts-allowed.Post (λ κs r s. r)
+verdicts-allowed-once = ((λ κs a. tt), λ κs a r₁ r₂ s₁ s₂ p q. p ∙ sym q)
 
 -- tables
-tables-number-once : Once tables-number.Post (λ κs r s. r)
-tables-number-once κs a r₁ r₂ s₁ s₂ p q = p ∙ sym q
+tables-number-once : Determined tables-number.Pre tables-number.Post (λ κs r s. r)
+tables-number-once = ((λ κs a. tt), λ κs a r₁ r₂ s₁ s₂ p q. p ∙ sym q)
 
-tables-is-segment-once : Once tables-is-segment.Post (λ κs r s. r)
-tables-is-segment-once κs a r₁ r₂ s₁ s₂ p q = p ∙ sym q
+tables-is-segment-once : Determined tables-is-segment.Pre tables-is-segment.Post (λ κs r s. r)
+tables-is-segment-once = ((λ κs a. tt), λ κs a r₁ r₂ s₁ s₂ p q. p ∙ sym q)
 
-tables-is-element-once : Once tables-is-element.Post (λ κs r s. r)
-tables-is-element-once κs a r₁ r₂ s₁ s₂ p q = p ∙ sym q
+tables-is-element-once : Determined tables-is-element.Pre tables-is-element.Post (λ κs r s. r)
+tables-is-element-once = ((λ κs a. tt), λ κs a r₁ r₂ s₁ s₂ p q. p ∙ sym q)
 
-tables-is-note-once : Once tables-is-note.Post (λ κs r s. r)
-tables-is-note-once κs a r₁ r₂ s₁ s₂ p q = p ∙ sym q
+tables-is-note-once : Determined tables-is-note.Pre tables-is-note.Post (λ κs r s. r)
+tables-is-note-once = ((λ κs a. tt), λ κs a r₁ r₂ s₁ s₂ p q. p ∙ sym q)
 
-tables-kind-of-once : Once tables-kind-of.Post (λ κs r s. r)
-tables-kind-of-once κs a r₁ r₂ s₁ s₂ p q = p ∙ sym q
+tables-kind-of-once : Determined tables-kind-of.Pre tables-kind-of.Post (λ κs r s. r)
+tables-kind-of-once = ((λ κs a. tt), λ κs a r₁ r₂ s₁ s₂ p q. p ∙ sym q)
 
-tables-relation-of-once : Once tables-relation-of.Post (λ κs r s. r)
-tables-relation-of-once κs a r₁ r₂ s₁ s₂ p q = p ∙ sym q
+tables-relation-of-once : Determined tables-relation-of.Pre tables-relation-of.Post (λ κs r s. r)
+tables-relation-of-once = ((λ κs a. tt), λ κs a r₁ r₂ s₁ s₂ p q. p ∙ sym q)
 
-tables-is-entry-once : Once tables-is-entry.Post (λ κs r s. r)
-tables-is-entry-once κs a r₁ r₂ s₁ s₂ p q = p ∙ sym q
+tables-is-entry-once : Determined tables-is-entry.Pre tables-is-entry.Post (λ κs r s. r)
+tables-is-entry-once = ((λ κs a. tt), λ κs a r₁ r₂ s₁ s₂ p q. p ∙ sym q)
 
-tables-next-in-order-once : Once tables-next-in-order.Post (λ κs r s. r)
-tables-next-in-order-once κs a r₁ r₂ s₁ s₂ p q = p ∙ sym q
+tables-next-in-order-once : Determined tables-next-in-order.Pre tables-next-in-order.Post (λ κs r s. r)
+tables-next-in-order-once = ((λ κs a. tt), λ κs a r₁ r₂ s₁ s₂ p q. p ∙ sym q)
 
-tables-reach-once : Once tables-reach.Post (λ κs r s. r)
-tables-reach-once κs a r₁ r₂ s₁ s₂ p q = p ∙ sym q
+tables-reach-once : Determined tables-reach.Pre tables-reach.Post (λ κs r s. r)
+tables-reach-once = ((λ κs a. tt), λ κs a r₁ r₂ s₁ s₂ p q. p ∙ sym q)
 
-tables-next-mandatory-once : Once tables-next-mandatory.Post (λ κs r s. r)
-tables-next-mandatory-once κs a r₁ r₂ s₁ s₂ p q = p ∙ sym q
+tables-next-mandatory-once : Determined tables-next-mandatory.Pre tables-next-mandatory.Post (λ κs r s. r)
+tables-next-mandatory-once = ((λ κs a. tt), λ κs a r₁ r₂ s₁ s₂ p q. p ∙ sym q)
 
-tables-has-values-once : Once tables-has-values.Post (λ κs r s. r)
-tables-has-values-once κs a r₁ r₂ s₁ s₂ p q = p ∙ sym q
+tables-has-values-once : Determined tables-has-values.Pre tables-has-values.Post (λ κs r s. r)
+tables-has-values-once = ((λ κs a. tt), λ κs a r₁ r₂ s₁ s₂ p q. p ∙ sym q)
 
-tables-is-listed-once : Once tables-is-listed.Post (λ κs r s. r)
-tables-is-listed-once κs a r₁ r₂ s₁ s₂ p q = p ∙ sym q
+tables-is-listed-once : Determined tables-is-listed.Pre tables-is-listed.Post (λ κs r s. r)
+tables-is-listed-once = ((λ κs a. tt), λ κs a r₁ r₂ s₁ s₂ p q. p ∙ sym q)
 
-tables-id-at-once : Once tables-id-at.Post (λ κs r s. r)
-tables-id-at-once κs a r₁ r₂ s₁ s₂ p q = p ∙ sym q
+tables-id-at-once : Determined tables-id-at.Pre tables-id-at.Post (λ κs r s. r)
+tables-id-at-once = ((λ κs a. tt), λ κs a r₁ r₂ s₁ s₂ p q. p ∙ sym q)
 
-tables-is-known-once : Once tables-is-known.Post (λ κs r s. r)
-tables-is-known-once κs a r₁ r₂ s₁ s₂ p q = p ∙ sym q
+tables-is-known-once : Determined tables-is-known.Pre tables-is-known.Post (λ κs r s. r)
+tables-is-known-once = ((λ κs a. tt), λ κs a r₁ r₂ s₁ s₂ p q. p ∙ sym q)
 
 -- guides
-guides-directory-once : Once guides-directory.Post (λ κs r s. r)
-guides-directory-once κs a r₁ r₂ s₁ s₂ p q = p ∙ sym q
+guides-directory-once : Determined guides-directory.Pre guides-directory.Post (λ κs r s. r)
+guides-directory-once = ((λ κs a. tt), λ κs a r₁ r₂ s₁ s₂ p q. p ∙ sym q)
 
-guides-guide-006010-once : Once guides-guide-006010.Post (λ κs r s. r)
-guides-guide-006010-once κs a r₁ r₂ s₁ s₂ p q = p ∙ sym q
+guides-guide-006010-once : Determined guides-guide-006010.Pre guides-guide-006010.Post (λ κs r s. r)
+guides-guide-006010-once = ((λ κs a. tt), λ κs a r₁ r₂ s₁ s₂ p q. p ∙ sym q)
 
-guides-guide-004010-once : Once guides-guide-004010.Post (λ κs r s. r)
-guides-guide-004010-once κs a r₁ r₂ s₁ s₂ p q = p ∙ sym q
+guides-guide-004010-once : Determined guides-guide-004010.Pre guides-guide-004010.Post (λ κs r s. r)
+guides-guide-004010-once = ((λ κs a. tt), λ κs a r₁ r₂ s₁ s₂ p q. p ∙ sym q)
 
 -- elements
-elements-next-code-once : Once elements-next-code.Post (λ κs r s. r)
-elements-next-code-once κs a r₁ r₂ s₁ s₂ p q = p ∙ sym q
+elements-next-code-once : Determined elements-next-code.Pre elements-next-code.Post (λ κs r s. r)
+elements-next-code-once = ((λ κs a. tt), λ κs a r₁ r₂ s₁ s₂ p q. p ∙ sym q)
 
-elements-is-clean-once : Once elements-is-clean.Post (λ κs r s. r)
-elements-is-clean-once κs a r₁ r₂ s₁ s₂ p q = p ∙ sym q
+elements-is-clean-once : Determined elements-is-clean.Pre elements-is-clean.Post (λ κs r s. r)
+elements-is-clean-once = ((λ κs a. tt), λ κs a r₁ r₂ s₁ s₂ p q. p ∙ sym q)
 
 -- findings
-findings-start-once : Once findings-start.Post (λ κs r s. r)
-findings-start-once κs a r₁ r₂ s₁ s₂ p q = p ∙ sym q
+findings-start-once : Determined findings-start.Pre findings-start.Post (λ κs r s. r)
+findings-start-once = ((λ κs a. tt), λ κs a r₁ r₂ s₁ s₂ p q. p ∙ sym q)
 
-findings-next-once : Once findings-next.Post (λ κs r s. r)
-findings-next-once κs a r₁ r₂ s₁ s₂ p q = p ∙ sym q
+findings-next-once : Determined findings-next.Pre findings-next.Post (λ κs r s. r)
+findings-next-once = ((λ κs a. tt), λ κs a r₁ r₂ s₁ s₂ p q. p ∙ sym q)
 
-findings-is-noted-once : Once findings-is-noted.Post (λ κs r s. r)
-findings-is-noted-once κs a r₁ r₂ s₁ s₂ p q = p ∙ sym q
+findings-is-noted-once : Determined findings-is-noted.Pre findings-is-noted.Post (λ κs r s. r)
+findings-is-noted-once = ((λ κs a. tt), λ κs a r₁ r₂ s₁ s₂ p q. p ∙ sym q)
 
 -- writing
-writing-clipped-once : Once writing-clipped.Post (λ κs r s. r)
-writing-clipped-once κs a r₁ r₂ s₁ s₂ p q = p ∙ sym q
+writing-clipped-once : Determined writing-clipped.Pre writing-clipped.Post (λ κs r s. r)
+writing-clipped-once = ((λ κs a. tt), λ κs a r₁ r₂ s₁ s₂ p q. p ∙ sym q)
 
-writing-joined-once : Once writing-joined.Post (λ κs r s. r)
-writing-joined-once κs a r₁ r₂ s₁ s₂ p q = p ∙ sym q
+writing-joined-once : Determined writing-joined.Pre writing-joined.Post (λ κs r s. r)
+writing-joined-once = ((λ κs a. tt), λ κs a r₁ r₂ s₁ s₂ p q. p ∙ sym q)
 
-writing-add-byte-once : Once writing-add-byte.Post (λ κs r s. written r (now (s .0)))
-writing-add-byte-once κs a r₁ r₂ s₁ s₂ p q = from-once p q
+writing-add-byte-once : Determined writing-add-byte.Pre writing-add-byte.Post (λ κs r s. beside r (now (s .0)))
+writing-add-byte-once = ((λ κs a. tt), λ κs a r₁ r₂ s₁ s₂ p q. from-once p q)
 
-writing-add-bytes-once : Once writing-add-bytes.Post (λ κs r s. written r (now (s .0)))
-writing-add-bytes-once κs a r₁ r₂ s₁ s₂ p q = from-once p q
+writing-add-bytes-once : Determined writing-add-bytes.Pre writing-add-bytes.Post (λ κs r s. beside r (now (s .0)))
+writing-add-bytes-once = ((λ κs a. tt), λ κs a r₁ r₂ s₁ s₂ p q. from-once p q)
 
-writing-add-number-once : Once writing-add-number.Post (λ κs r s. written r (now (s .0)))
-writing-add-number-once κs a r₁ r₂ s₁ s₂ p q = from-once p q
+writing-add-number-once : Determined writing-add-number.Pre writing-add-number.Post (λ κs r s. beside r (now (s .0)))
+writing-add-number-once = ((λ κs a. tt), λ κs a r₁ r₂ s₁ s₂ p q. from-once p q)
 
-writing-add-field-once : Once writing-add-field.Post (λ κs r s. written r (now (s .0)))
-writing-add-field-once κs a r₁ r₂ s₁ s₂ p q = from-once p q
+writing-add-field-once : Determined writing-add-field.Pre writing-add-field.Post (λ κs r s. beside r (now (s .0)))
+writing-add-field-once = ((λ κs a. tt), λ κs a r₁ r₂ s₁ s₂ p q. from-once p q)
 
-writing-add-single-once : Once writing-add-single.Post (λ κs r s. written r (now (s .0)))
-writing-add-single-once κs a r₁ r₂ s₁ s₂ p q = from-once p q
+writing-add-single-once : Determined writing-add-single.Pre writing-add-single.Post (λ κs r s. beside r (now (s .0)))
+writing-add-single-once = ((λ κs a. tt), λ κs a r₁ r₂ s₁ s₂ p q. from-once p q)
 
-writing-add-count-once : Once writing-add-count.Post (λ κs r s. written r (now (s .0)))
-writing-add-count-once κs a r₁ r₂ s₁ s₂ p q = from-once p q
+writing-add-count-once : Determined writing-add-count.Pre writing-add-count.Post (λ κs r s. beside r (now (s .0)))
+writing-add-count-once = ((λ κs a. tt), λ κs a r₁ r₂ s₁ s₂ p q. from-once p q)
 
-writing-add-fixed-once : Once writing-add-fixed.Post (λ κs r s. written r (now (s .0)))
-writing-add-fixed-once κs a r₁ r₂ s₁ s₂ p q = from-once p q
+writing-add-fixed-once : Determined writing-add-fixed.Pre writing-add-fixed.Post (λ κs r s. beside r (now (s .0)))
+writing-add-fixed-once = ((λ κs a. tt), λ κs a r₁ r₂ s₁ s₂ p q. from-once p q)
 
-writing-add-optional-once : Once writing-add-optional.Post (λ κs r s. written r (now (s .0)))
-writing-add-optional-once κs a r₁ r₂ s₁ s₂ p q = from-once p q
+writing-add-optional-once : Determined writing-add-optional.Pre writing-add-optional.Post (λ κs r s. beside r (now (s .0)))
+writing-add-optional-once = ((λ κs a. tt), λ κs a r₁ r₂ s₁ s₂ p q. from-once p q)
 
-writing-add-codes-once : Once writing-add-codes.Post (λ κs r s. written r (now (s .0)))
-writing-add-codes-once κs a r₁ r₂ s₁ s₂ p q = from-once p q
+writing-add-codes-once : Determined writing-add-codes.Pre writing-add-codes.Post (λ κs r s. beside r (now (s .0)))
+writing-add-codes-once = ((λ κs a. tt), λ κs a r₁ r₂ s₁ s₂ p q. from-once p q)
 
-writing-add-pair-once : Once writing-add-pair.Post (λ κs r s. written r (now (s .0)))
-writing-add-pair-once κs a r₁ r₂ s₁ s₂ p q = from-once p q
+writing-add-pair-once : Determined writing-add-pair.Pre writing-add-pair.Post (λ κs r s. beside r (now (s .0)))
+writing-add-pair-once = ((λ κs a. tt), λ κs a r₁ r₂ s₁ s₂ p q. from-once p q)
 
 -- response_envelope
-response-envelope-add-isa-once : Once response-envelope-add-isa.Post (λ κs r s. written r (now (s .0)))
-response-envelope-add-isa-once κs a r₁ r₂ s₁ s₂ p q = from-once p q
+response-envelope-add-isa-once : Determined response-envelope-add-isa.Pre response-envelope-add-isa.Post (λ κs r s. beside r (now (s .0)))
+response-envelope-add-isa-once = ((λ κs a. tt), λ κs a r₁ r₂ s₁ s₂ p q. from-once p q)
 
-response-envelope-add-gs-once : Once response-envelope-add-gs.Post (λ κs r s. written r (now (s .0)))
-response-envelope-add-gs-once κs a r₁ r₂ s₁ s₂ p q = from-once p q
+response-envelope-add-gs-once : Determined response-envelope-add-gs.Pre response-envelope-add-gs.Post (λ κs r s. beside r (now (s .0)))
+response-envelope-add-gs-once = ((λ κs a. tt), λ κs a r₁ r₂ s₁ s₂ p q. from-once p q)
 
-response-envelope-add-ge-once : Once response-envelope-add-ge.Post (λ κs r s. written r (now (s .0)))
-response-envelope-add-ge-once κs a r₁ r₂ s₁ s₂ p q = from-once p q
+response-envelope-add-ge-once : Determined response-envelope-add-ge.Pre response-envelope-add-ge.Post (λ κs r s. beside r (now (s .0)))
+response-envelope-add-ge-once = ((λ κs a. tt), λ κs a r₁ r₂ s₁ s₂ p q. from-once p q)
 
-response-envelope-add-iea-once : Once response-envelope-add-iea.Post (λ κs r s. written r (now (s .0)))
-response-envelope-add-iea-once κs a r₁ r₂ s₁ s₂ p q = from-once p q
+response-envelope-add-iea-once : Determined response-envelope-add-iea.Pre response-envelope-add-iea.Post (λ κs r s. beside r (now (s .0)))
+response-envelope-add-iea-once = ((λ κs a. tt), λ κs a r₁ r₂ s₁ s₂ p q. from-once p q)
 
 -- blocks
-blocks-add-st-once : Once blocks-add-st.Post (λ κs r s. written r (now (s .0)))
-blocks-add-st-once κs a r₁ r₂ s₁ s₂ p q = from-once p q
+blocks-add-st-once : Determined blocks-add-st.Pre blocks-add-st.Post (λ κs r s. beside r (now (s .0)))
+blocks-add-st-once = ((λ κs a. tt), λ κs a r₁ r₂ s₁ s₂ p q. from-once p q)
 
-blocks-add-ak1-once : Once blocks-add-ak1.Post (λ κs r s. written r (now (s .0)))
-blocks-add-ak1-once κs a r₁ r₂ s₁ s₂ p q = from-once p q
+blocks-add-ak1-once : Determined blocks-add-ak1.Pre blocks-add-ak1.Post (λ κs r s. beside r (now (s .0)))
+blocks-add-ak1-once = ((λ κs a. tt), λ κs a r₁ r₂ s₁ s₂ p q. from-once p q)
 
-blocks-add-ak2-once : Once blocks-add-ak2.Post (λ κs r s. written r (now (s .0)))
-blocks-add-ak2-once κs a r₁ r₂ s₁ s₂ p q = from-once p q
+blocks-add-ak2-once : Determined blocks-add-ak2.Pre blocks-add-ak2.Post (λ κs r s. beside r (now (s .0)))
+blocks-add-ak2-once = ((λ κs a. tt), λ κs a r₁ r₂ s₁ s₂ p q. from-once p q)
 
-blocks-add-ak4-once : Once blocks-add-ak4.Post (λ κs r s. written r (now (s .0)))
-blocks-add-ak4-once κs a r₁ r₂ s₁ s₂ p q = from-once p q
+blocks-add-ak4-once : Determined blocks-add-ak4.Pre blocks-add-ak4.Post (λ κs r s. beside r (now (s .0)))
+blocks-add-ak4-once = ((λ κs a. tt), λ κs a r₁ r₂ s₁ s₂ p q. from-once p q)
 
-blocks-add-ak5-once : Once blocks-add-ak5.Post (λ κs r s. written r (now (s .0)))
-blocks-add-ak5-once κs a r₁ r₂ s₁ s₂ p q = from-once p q
+blocks-add-ak5-once : Determined blocks-add-ak5.Pre blocks-add-ak5.Post (λ κs r s. beside r (now (s .0)))
+blocks-add-ak5-once = ((λ κs a. tt), λ κs a r₁ r₂ s₁ s₂ p q. from-once p q)
 
-blocks-add-ak9-once : Once blocks-add-ak9.Post (λ κs r s. written r (now (s .0)))
-blocks-add-ak9-once κs a r₁ r₂ s₁ s₂ p q = from-once p q
+blocks-add-ak9-once : Determined blocks-add-ak9.Pre blocks-add-ak9.Post (λ κs r s. beside r (now (s .0)))
+blocks-add-ak9-once = ((λ κs a. tt), λ κs a r₁ r₂ s₁ s₂ p q. from-once p q)
 
-blocks-add-se-once : Once blocks-add-se.Post (λ κs r s. written r (now (s .0)))
-blocks-add-se-once κs a r₁ r₂ s₁ s₂ p q = from-once p q
+blocks-add-se-once : Determined blocks-add-se.Pre blocks-add-se.Post (λ κs r s. beside r (now (s .0)))
+blocks-add-se-once = ((λ κs a. tt), λ κs a r₁ r₂ s₁ s₂ p q. from-once p q)
 
 -- notes
-notes-put-notes-once : Once notes-put-notes.Post (λ κs r s. written r (now (s .0)))
-notes-put-notes-once κs a r₁ r₂ s₁ s₂ p q = tells-once p q
+notes-put-notes-once : Determined notes-put-notes.Pre notes-put-notes.Post (λ κs r s. beside r (now (s .0)))
+notes-put-notes-once = ((λ κs a. tt), λ κs a r₁ r₂ s₁ s₂ p q. tells-once p q)
 
 -- first_line
-first-line-call-of-once : Once first-line-call-of.Post (λ κs r s. r)
-first-line-call-of-once κs a r₁ r₂ s₁ s₂ p q = p ∙ sym q
+first-line-call-of-once : Determined first-line-call-of.Pre first-line-call-of.Post (λ κs r s. r)
+first-line-call-of-once = ((λ κs a. tt), λ κs a r₁ r₂ s₁ s₂ p q. p ∙ sym q)
 
-first-line-put-refused-once : Once first-line-put-refused.Post (λ κs r s. written r (now (s .0)))
-first-line-put-refused-once κs a r₁ r₂ s₁ s₂ p q = wrote-once p q
+first-line-put-refused-once : Determined first-line-put-refused.Pre first-line-put-refused.Post (λ κs r s. beside r (now (s .0)))
+first-line-put-refused-once = ((λ κs a. tt), λ κs a r₁ r₂ s₁ s₂ p q. wrote-once p q)
 
 -- acknowledgment
-acknowledgment-acknowledge-once : Once acknowledgment-acknowledge.Post (λ κs r s. written r (now (s .1 .0)))
-acknowledgment-acknowledge-once κs a r₁ r₂ s₁ s₂ p q =
-    both-same (once-answer _ _ _ _ _ _ _ p q) (ap (λ (o : Outcome). o .buffer) (once _ _ _ _ _ _ _ p q))
+acknowledgment-acknowledge-once : Determined acknowledgment-acknowledge.Pre acknowledgment-acknowledge.Post (λ κs r s. beside r (now (s .1 .0)))
+acknowledgment-acknowledge-once = ((λ κs a. tt), λ κs a r₁ r₂ s₁ s₂ p q. both-same (once-answer _ _ _ _ _ _ _ p q) (ap (λ (o : Outcome). o .buffer) (once _ _ _ _ _ _ _ p q)))
 
-acknowledgment-x12-acknowledge-once : Once acknowledgment-x12-acknowledge.Post (λ κs r s. outcome r (now (s .1 .1 .1 .1 .1 .0)) (now (s .1 .0)))
-acknowledgment-x12-acknowledge-once κs a r₁ r₂ s₁ s₂ p q = p ∙ sym q
+acknowledgment-x12-acknowledge-once : Determined acknowledgment-x12-acknowledge.Pre acknowledgment-x12-acknowledge.Post (λ κs r s. beside (beside r (now (s .1 .0))) (now (s .1 .1 .1 .1 .1 .0)))
+acknowledgment-x12-acknowledge-once =
+    ((λ κs a. tt), λ κs a r₁ r₂ s₁ s₂ p q. ap (λ (o : Outcome). beside (beside (o .number) (o .buffer)) (o .size)) (p ∙ sym q))
 
 -- exchange
-exchange-exchange-once : Once exchange-exchange.Post (λ κs r s. written r (now (s .1 .0)))
-exchange-exchange-once κs a r₁ r₂ s₁ s₂ p q = both-same (p .0 ∙ sym (q .0)) (p .1 ∙ sym (q .1))
+exchange-exchange-once : Determined exchange-exchange.Pre exchange-exchange.Post (λ κs r s. beside r (now (s .1 .0)))
+exchange-exchange-once = ((λ κs a. tt), λ κs a r₁ r₂ s₁ s₂ p q. both-same (p .0 ∙ sym (q .0)) (p .1 ∙ sym (q .1)))
