@@ -57,12 +57,14 @@ use Rattle.verdicts.proofs.group_codes.Reads as verdicts-group-codes
 use Rattle.verdicts.proofs.declared_sets.Reads as verdicts-declared-sets
 use Rattle.verdicts.proofs.verdict.Reads as verdicts-verdict
 use Rattle.verdicts.proofs.allowed.Reads as verdicts-allowed
-use Rattle.tables.proofs.number.Reads as tables-number
+use Rattle.tables.proofs.below.Reads as tables-below
+use Rattle.tables.proofs.most_uses.Reads as tables-most-uses
+use Rattle.tables.proofs.element_at.Reads as tables-element-at
+use Rattle.tables.proofs.relation_at.Reads as tables-relation-at
+use Rattle.tables.proofs.places_at.Reads as tables-places-at
 use Rattle.tables.proofs.is_segment.Reads as tables-is-segment
 use Rattle.tables.proofs.is_element.Reads as tables-is-element
 use Rattle.tables.proofs.is_note.Reads as tables-is-note
-use Rattle.tables.proofs.kind_of.Reads as tables-kind-of
-use Rattle.tables.proofs.relation_of.Reads as tables-relation-of
 use Rattle.tables.proofs.is_entry.Reads as tables-is-entry
 use Rattle.tables.proofs.next_in_order.Reads as tables-next-in-order
 use Rattle.tables.proofs.reach.Reads as tables-reach
@@ -283,8 +285,20 @@ verdicts-allowed-once : Once verdicts-allowed.Post (λ κs r s. r)
 verdicts-allowed-once κs a r₁ r₂ s₁ s₂ p q = p ∙ sym q
 
 -- tables
-tables-number-once : Once tables-number.Post (λ κs r s. r)
-tables-number-once κs a r₁ r₂ s₁ s₂ p q = p ∙ sym q
+tables-below-once : Once tables-below.Post (λ κs r s. r)
+tables-below-once κs a r₁ r₂ s₁ s₂ p q = p ∙ sym q
+
+tables-most-uses-once : Once tables-most-uses.Post (λ κs r s. r)
+tables-most-uses-once κs a r₁ r₂ s₁ s₂ p q = p ∙ sym q
+
+tables-element-at-once : Once tables-element-at.Post (λ κs r s. r)
+tables-element-at-once κs a r₁ r₂ s₁ s₂ p q = p ∙ sym q
+
+tables-relation-at-once : Once tables-relation-at.Post (λ κs r s. r)
+tables-relation-at-once κs a r₁ r₂ s₁ s₂ p q = p ∙ sym q
+
+tables-places-at-once : Once tables-places-at.Post (λ κs r s. r)
+tables-places-at-once κs a r₁ r₂ s₁ s₂ p q = p ∙ sym q
 
 tables-is-segment-once : Once tables-is-segment.Post (λ κs r s. r)
 tables-is-segment-once κs a r₁ r₂ s₁ s₂ p q = p ∙ sym q
@@ -294,12 +308,6 @@ tables-is-element-once κs a r₁ r₂ s₁ s₂ p q = p ∙ sym q
 
 tables-is-note-once : Once tables-is-note.Post (λ κs r s. r)
 tables-is-note-once κs a r₁ r₂ s₁ s₂ p q = p ∙ sym q
-
-tables-kind-of-once : Once tables-kind-of.Post (λ κs r s. r)
-tables-kind-of-once κs a r₁ r₂ s₁ s₂ p q = p ∙ sym q
-
-tables-relation-of-once : Once tables-relation-of.Post (λ κs r s. r)
-tables-relation-of-once κs a r₁ r₂ s₁ s₂ p q = p ∙ sym q
 
 tables-is-entry-once : Once tables-is-entry.Post (λ κs r s. r)
 tables-is-entry-once κs a r₁ r₂ s₁ s₂ p q = p ∙ sym q
