@@ -1,24 +1,24 @@
 -- The code of an element's value, test by test, and the values of valid bytes that have none.
-use mathlib.Core.Path.{_≡_, refl}
+use mathlib.Core.Path.{_≡_, refl, sym}
 use mathlib.Core.Bool.{Bool, true, false, _&&_, not, true≢false}
 use mathlib.Core.List.{[], _∷_}
-use Prim.Native.Nat.{ℕ, zero, suc}
+use Prim.Native.Nat.{ℕ}
 use native.Mathlib.Omega.{arith}
 use borrow.Author.Tests.{leb-true, le-ltb}
 use lib.Dec.{eqb, ltb, leb}
-use lib.ListN.{length, getD}
-use Rattle.rules.specs.Base.{Bytes, null, all, _⇒_, first, if_then_else_}
+use lib.ListN.{length}
+use Rattle.rules.specs.Base.{Bytes, null, all, between, _⇒_, first, if_then_else_}
 use Rattle.rules.specs.Cutting.{valid}
-use Rattle.rules.specs.Elements.{isN0, isDT, isTM, size, elementCode}
+use Rattle.rules.specs.Elements.{isN0, isDT, isTM, valueLength, elementCode}
 use Rattle.rules.specs.Numbers.{isDate, isTime}
 use Rattle.rules.specs.Tables.{Row}
-use Rattle.tables.specs.Rows.{column, kindOf}
 use Rattle.rules.specs.declared.Delimiters.{Delimiters}
 use Rattle.rules.specs.declared.Kind.{Kind}
-use Rattle.rules.specs.declared.Kind.the-variants.{DT, TM}
+use Rattle.rules.specs.declared.Kind.the-variants.{AN, ID, N0, DT, TM}
 use Rattle.rules.proofs.Logic.{and-left, and-right}
-use Rattle.tables.specs.Reading.{Guide, rowAt}
-use Rattle.elements.specs.Values.{unlisted, spelledAs, ruleCode, valueCode, takes, takesLength}
+use Rattle.tables.specs.Reading.{elementRow}
+use Rattle.tables.specs.declared.ElementRow.{ElementRow}
+use Rattle.elements.specs.Values.{isText, unlisted, spelledAs, ruleCode, valueCode, takes, takesLength}
 
 filled : (e : Bytes) → (length e ≡ 0 → ⊥) → null e ≡ false
 filled [] h = absurd (h refl)
@@ -65,7 +65,7 @@ module _ (d : Delimiters) (r : Row) (e : Bytes) where
   code-filled h =
       let k = r .kind in
       rw (filled e h)
-      (in-order (all (valid d) e) (spelledAs k e) (ltb (size k e) (r .shortest)) (ltb (r .longest) (size k e))
+      (in-order (all (valid d) e) (spelledAs k e) (ltb (valueLength k e) (r .shortest)) (ltb (r .longest) (valueLength k e))
       (unlisted r e) (isDT k && not (isDate e)) (isTM k && not (isTime e)))
 
 module _ (r : Row) where
@@ -87,36 +87,45 @@ module _ (r : Row) where
   takes-spoiled d [] v = absurd (true≢false v)
   takes-spoiled d (b ∷ e) v = rw (code-filled d r (b ∷ e) (λ h. omega arith), v)
 
--- by what each test says
-pub value-by : (r : Row) (e : Bytes) {kind : Kind} → kind ≡ r .kind
-    → {s : Bool} → s ≡ spelledAs kind e
-    → {n : ℕ} → n ≡ size kind e
-    → {lo : ℕ} → lo ≡ r .shortest
-    → {hi : ℕ} → hi ≡ r .longest
+-- by what each test says of the row
+pub value-by : (r : Row) (e : Bytes) {row : ElementRow} → row ≡ elementRow r
+    → {s : Bool} → s ≡ spelledAs (row .kind) e
+    → {n : ℕ} → n ≡ valueLength (row .kind) e
     → {u : Bool} → u ≡ unlisted r e
-    → {c : ℕ} → c ≡ ruleCode kind e
-    → valueCode r e ≡ if s then (if ltb n lo then 4 else (if ltb hi n then 5 else (if u then 7 else c))) else 6
+    → {c : ℕ} → c ≡ ruleCode (row .kind) e
+    → valueCode r e ≡ if s then (if ltb n (row .shortest) then 4 else (if ltb (row .longest) n then 5 else (if u then 7 else c))) else 6
 unfolding valueCode
-value-by r e k s n lo hi u c = rw (s, n, lo, hi, u, c, k)
+value-by r e h s n u c = rw (s, n, u, c, h)
 
--- types AN and ID have no rule of their own
-plain : (n : ℕ) → leb n 1 ≡ true → (isN0 (kindOf n) ≡ false) × (isDT (kindOf n) ≡ false) × (isTM (kindOf n) ≡ false)
-unfolding kindOf
-plain zero e = (refl, refl, refl)
-plain (suc zero) e = (refl, refl, refl)
-plain (suc (suc n)) e = absurd (omega (arith, leb-true (suc (suc n)) 1 e))
+double : (b : Bool) → not (not b) ≡ b
+double true = refl
+double false = refl
 
-pub takes-length : (rows : Guide) (k : ℕ) (e : Bytes) → takesLength rows k (length e) ≡ true → valueCode (rowAt rows k) e ≡ 0
+pub length-by : (r : Row) {row : ElementRow} → row ≡ elementRow r
+    → {text : Bool} → text ≡ isText (row .kind)
+    → {listed : Bool} → listed ≡ not (null (r .codes))
+    → (n : ℕ) → takesLength r n ≡ text && (not listed && between (row .shortest) (row .longest) n)
+unfolding takesLength
+length-by r h t l n = rw (t, l, h, double (null (r .codes)))
+
+plain : (k : Kind) → isText k ≡ true → (isN0 k ≡ false) × (isDT k ≡ false) × (isTM k ≡ false)
+plain AN e = (refl, refl, refl)
+plain ID e = (refl, refl, refl)
+plain N0 e = absurd (true≢false (sym e))
+plain DT e = absurd (true≢false (sym e))
+plain TM e = absurd (true≢false (sym e))
+
+-- a text whose length is taken has no code
+pub takes-length : (r : Row) (e : Bytes) → takesLength r (length e) ≡ true → valueCode r e ≡ 0
 unfolding takesLength valueCode first
-takes-length rows k e h =
-    let r = rowAt rows k in
-    let text = leb (column (getD rows k []) 3) 1 in
+takes-length r e h =
+    let text = isText (r .kind) in
     let none = null (r .codes) in
     let low = leb (r .shortest) (length e) in
     let high = leb (length e) (r .longest) in
     let rest = and-right text (none && (low && high)) h in
     let sized = and-right none (low && high) rest in
-    let p = plain (column (getD rows k []) 3) (and-left text (none && (low && high)) h) in
+    let p = plain (r .kind) (and-left text (none && (low && high)) h) in
     rw (
       p .0,
       p .1,

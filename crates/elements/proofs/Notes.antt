@@ -13,14 +13,14 @@ use Rattle.rules.specs.Base.{any, if_then_else_}
 use Rattle.rules.specs.Cutting.{Segment}
 use Rattle.rules.specs.Elements.{present, isPlace, afterPresent, lacking, excluded, lacks, shutsOut}
 use Rattle.rules.specs.Tables.{Syntax}
-use Rattle.tables.specs.Rows.{isRow, relationOf, syntaxIn}
+use Rattle.tables.specs.Rows.{isRow, syntaxIn}
 use Rattle.rules.specs.declared.Relation.{Relation}
 use Rattle.rules.specs.declared.Relation.the-variants.{P, R, E, C, L}
 use Rattle.rules.proofs.Logic.{or-left, or-right}
 use Rattle.text.proofs.Loops.{and-false, or-false}
 use Rattle.tables.specs.Reading.{Guide, noteAt}
 use Rattle.tables.proofs.Laws.{notes-here, notes-skip, notes-stop, notes-end}
-use Rattle.elements.specs.Notes.{breaks, breaksBy, isE, concerns}
+use Rattle.elements.specs.Notes.{breaks, breaksBy, concerns}
 
 -- 1. The places after the first present one, at a cursor.
 module _ (s : Segment) (ps : List ℕ) (k : ℕ) where
@@ -169,20 +169,6 @@ module _ (s : Segment) (n : ℕ) where
       one false R ps e f = absurd (true≢false f)
       one false C ps e f = absurd (true≢false f)
       one false L ps e f = absurd (true≢false f)
-
-pub relation-e : (n : ℕ) → isE (relationOf n) ≡ eqb n 2
-unfolding relationOf
-relation-e n = go (eqb n 1) refl
-  where
-    rest2 : (a b c : Bool) → isE (if a then E else (if b then C else (if c then L else P))) ≡ a
-    rest2 true b c = refl
-    rest2 false true c = refl
-    rest2 false false true = refl
-    rest2 false false false = refl
-
-    go : (a : Bool) → eqb n 1 ≡ a → isE (if a then R else (if eqb n 2 then E else (if eqb n 3 then C else (if eqb n 4 then L else P)))) ≡ eqb n 2
-    go true e = rw (eqb-true n 1 e)
-    go false e = rest2 (eqb n 2) (eqb n 3) (eqb n 4)
 
 -- 4. The notes of an entry at a cursor: the one at row k passes as q says, and the rest decides.
 module _ (p : Syntax → Bool) (rows : Guide) (k : ℕ) where

@@ -11,7 +11,7 @@ use lib.ListN.{length, getD, take, drop, drop-of-length-le, length-drop}
 use lib.Seq.{take-nil, getD-drop}
 use Rattle.rules.specs.Base.{Bytes, null, all, any, between, _⇒_, first, every, if_then_else_}
 use Rattle.rules.specs.Cutting.{Segment, split, field, valid, marks}
-use Rattle.rules.specs.Elements.{isDT, isTM, spelled, size, elementCode, present, lacks, shutsOut, placeCodes, found, findingsFrom}
+use Rattle.rules.specs.Elements.{isDT, isTM, spelled, valueLength, elementCode, present, lacks, shutsOut, placeCodes, found, findingsFrom}
 use Rattle.rules.specs.Numbers.{isDate, isTime}
 use Rattle.rules.specs.Tables.{Row, Syntax}
 use Rattle.tables.specs.Rows.{isRow, rowsIn}
@@ -178,7 +178,7 @@ record OwnIs (empty : Bool) (own : ℕ) : Type 0 where
 own-is : (d : Delimiters) (r : Row) (e : Bytes) → OwnIs (null e) (elementCode d r e)
 unfolding elementCode first
 own-is d r e =
-    go (null e) (r .mandatory) (not (spelled d (r .kind) e)) (ltb (size (r .kind) e) (r .shortest)) (ltb (r .longest) (size (r .kind) e))
+    go (null e) (r .mandatory) (not (spelled d (r .kind) e)) (ltb (valueLength (r .kind) e) (r .shortest)) (ltb (r .longest) (valueLength (r .kind) e))
     (unlisted r e) (isDT (r .kind) && not (isDate e)) (isTM (r .kind) && not (isTime e))
   where
     go : (empty m a b c x y z : Bool)

@@ -2,17 +2,11 @@
 use Prim.Native.Nat.{ℕ}
 use mathlib.Core.Bool.{Bool, true, false, _||_, not}
 use mathlib.Core.List.{List}
-use lib.ListN.{drop}
 use Rattle.rules.specs.Cutting.{Segment}
 use Rattle.rules.specs.Elements.{lacking, excluded}
 use Rattle.rules.specs.Tables.{Syntax}
-use Rattle.tables.specs.Rows.{column, filled, relationOf}
 use Rattle.rules.specs.declared.Relation.{Relation}
 use Rattle.rules.specs.declared.Relation.the-variants.{P, R, E, C, L}
-
--- the note that a row of numbers is
-abbrev pub noteIs : List ℕ → Syntax
-noteIs r = record { relation = relationOf (column r 1); places = filled (drop 2 r) }
 
 abbrev pub breaksBy : Segment → ℕ → Relation → List ℕ → Bool
 breaksBy s n relation places = lacking s relation places n || excluded s relation places n

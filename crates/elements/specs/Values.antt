@@ -1,16 +1,14 @@
 -- The code of a value of valid bytes by a row, and the values that have none.
-use Prim.Native.Nat.{ℕ, _+_}
-use mathlib.Core.Bool.{Bool, _&&_, _||_, not}
+use Prim.Native.Nat.{ℕ}
+use mathlib.Core.Bool.{Bool, true, false, _&&_, _||_, not}
 use mathlib.Core.List.{[], _∷_}
-use lib.Dec.{eqb, ltb, leb}
-use lib.ListN.{getD}
+use lib.Dec.{eqb, ltb}
 use Rattle.rules.specs.Base.{Bytes, _⇒_, first, null, all, between, isDigit, member, if_then_else_}
-use Rattle.rules.specs.Elements.{isN0, isDT, isTM, unsigned, size}
+use Rattle.rules.specs.Elements.{isN0, isDT, isTM, unsigned, valueLength}
 use Rattle.rules.specs.Numbers.{isDate, isTime}
 use Rattle.rules.specs.Tables.{Row}
-use Rattle.tables.specs.Rows.{column}
 use Rattle.rules.specs.declared.Kind.{Kind}
-use Rattle.tables.specs.Reading.{Guide, rowAt, codesAt}
+use Rattle.rules.specs.declared.Kind.the-variants.{AN, ID, N0, DT, TM}
 
 -- outside the code values, where there are any
 abbrev pub unlisted : Row → Bytes → Bool
@@ -28,8 +26,8 @@ ruleCode k e = first ((isDT k && not (isDate e) ⇒ 8) ∷ (isTM k && not (isTim
 unfoldable pub valueCode : Row → Bytes → ℕ
 valueCode r e =
     if spelledAs (r .kind) e
-    then (if ltb (size (r .kind) e) (r .shortest) then 4
-    else (if ltb (r .longest) (size (r .kind) e) then 5
+    then (if ltb (valueLength (r .kind) e) (r .shortest) then 4
+    else (if ltb (r .longest) (valueLength (r .kind) e) then 5
     else (if unlisted r e then 7
     else ruleCode (r .kind) e)))
     else 6
@@ -38,8 +36,14 @@ valueCode r e =
 unfoldable pub takes : Row → Bytes → Bool
 takes r e = if null e then not (r .mandatory) else eqb (valueCode r e) 0
 
--- row k is of type AN or ID and has no code values, and n is within its limits
-unfoldable pub takesLength : Guide → ℕ → ℕ → Bool
-takesLength rows k n =
-    let r = rowAt rows k in
-    leb (column (getD rows k []) 3) 1 && (null (codesAt rows (k + 1)) && between (r .shortest) (r .longest) n)
+-- types AN and ID have no rule of their own
+abbrev pub isText : Kind → Bool
+isText AN = true
+isText ID = true
+isText N0 = false
+isText DT = false
+isText TM = false
+
+-- the row is a text without code values, and n is within its limits
+unfoldable pub takesLength : Row → ℕ → Bool
+takesLength r n = isText (r .kind) && (null (r .codes) && between (r .shortest) (r .longest) n)

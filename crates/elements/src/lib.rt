@@ -6,86 +6,48 @@ ghost use Prim.Native.Nat.{_+_};
 ghost use lib.ListN.{getD, drop};
 ghost use Rattle.rules.specs.Base.{_⇒_, first, null, any, if_then_else_};
 ghost use Rattle.rules.specs.Cutting.{split};
-ghost use Rattle.rules.specs.Elements as rules;
-ghost use Rattle.rules.specs.Numbers as numbers;
+ghost use Rattle.rules.specs.Elements as law;
+ghost use Rattle.rules.specs.Numbers.{isDate, isTime};
 ghost use Rattle.tables.specs.Rows as rows;
-ghost use Rattle.tables.specs.Reading.{rowAt, entryAt};
-ghost use Rattle.elements.specs.Values.{unlisted, spelledAs, ruleCode, valueCode, takesLength, takes};
-ghost use Rattle.elements.specs.Notes.{noteIs, breaks, breaksBy, concerns};
+ghost use Rattle.tables.specs.Reading.{rowAt, noteAt, entryAt};
+ghost use Rattle.elements.specs.Values.{isText, unlisted, spelledAs, ruleCode, valueCode, takesLength, takes};
+ghost use Rattle.elements.specs.Notes.{isE, breaks, breaksBy, concerns};
 ghost use Rattle.elements.specs.Places.{nextCode, nextStart, endsField};
 use rules::Delimiters;
 use rules::Kind;
 use rules::Relation;
 
-// The column of a note's row.
-const RELATION: usize = 1;
-
-// The columns of an element's row.
-const MANDATORY: usize = 2;
-
-const KIND: usize = 3;
-
-const SHORTEST: usize = 4;
-
-const LONGEST: usize = 5;
-
 fn date_code(e: &[u8]) -> u8
-    ensures { λ r. ⌜ r ≡ first ((not (numbers.isDate (now (e .entry))) ⇒ 8) ∷ []) ⌝ }
+    ensures { λ r. ⌜ r ≡ first ((not (isDate (now (e .entry))) ⇒ 8) ∷ []) ⌝ }
 {
     if text::is_date(e) { 0 } else { 8 }
 }
 
 fn time_code(e: &[u8]) -> u8
-    ensures { λ r. ⌜ r ≡ first ((not (numbers.isTime (now (e .entry))) ⇒ 9) ∷ []) ⌝ }
+    ensures { λ r. ⌜ r ≡ first ((not (isTime (now (e .entry))) ⇒ 9) ∷ []) ⌝ }
 {
     if text::is_time(e) { 0 } else { 9 }
-}
-
-// The row after row k; past the end there is none, whatever the number.
-fn below(guide: &[[u16; 6]], k: usize) -> usize
-    ensures { λ r. ⌜ drop r (now (guide .entry)) ≡ drop (k + 1) (now (guide .entry)) ⌝ }
-{
-    if k < guide.len() {
-        return k + 1;
-    }
-    k
 }
 
 // Outside the code values of row k, where it has any.
 fn is_unlisted(e: &[u8], guide: &[[u16; 6]], k: usize) -> bool
     ensures { λ r. ⌜ r ≡ unlisted (rowAt (now (guide .entry)) k) (now (e .entry)) ⌝ }
 {
-    let values = below(guide, k);
-    if !tables::has_values(guide, values) {
+    if !tables::has_values(guide, k) {
         return false;
     }
-    !tables::is_listed(guide, values, e)
+    !tables::is_listed(guide, k, e)
 }
 
 fn empty_code(guide: &[[u16; 6]], k: usize) -> u8
     ensures { λ r. ⌜ r ≡ first ((rowAt (now (guide .entry)) k .mandatory ⇒ 1) ∷ []) ⌝ }
 {
-    if tables::number(guide, k, MANDATORY) == tables::M {
-        return 1;
-    }
-    0
-}
-
-fn wide(n: u16) -> usize
-    ensures { λ r. ⌜ r ≡ n ⌝ }
-{
-    n as usize
-}
-
-// A length that row k asks for.
-fn limit(guide: &[[u16; 6]], k: usize, column: usize) -> usize
-    ensures { λ r. ⌜ r ≡ rows.column (getD (now (guide .entry)) k []) column ⌝ }
-{
-    wide(tables::number(guide, k, column))
+    let row = tables::element_at(guide, k);
+    if row.mandatory { 1 } else { 0 }
 }
 
 fn is_number(kind: Kind) -> bool
-    ensures { λ r. ⌜ r ≡ rules.isN0 kind ⌝ }
+    ensures { λ r. ⌜ r ≡ law.isN0 kind ⌝ }
 {
     match kind {
         Kind::AN => false,
@@ -107,8 +69,8 @@ fn is_spelled(e: &[u8], kind: Kind) -> bool
 }
 
 // How long a value counts: the minus of a number does not.
-fn size(e: &[u8], kind: Kind) -> usize
-    ensures { λ r. ⌜ r ≡ rules.size kind (now (e .entry)) ⌝ }
+fn value_length(e: &[u8], kind: Kind) -> usize
+    ensures { λ r. ⌜ r ≡ law.valueLength kind (now (e .entry)) ⌝ }
 {
     if is_number(kind) {
         return text::unsigned(e).len();
@@ -133,15 +95,16 @@ fn rule_code(e: &[u8], kind: Kind) -> u8
 fn value_code(e: &[u8], guide: &[[u16; 6]], k: usize) -> u8
     ensures { λ r. ⌜ r ≡ valueCode (rowAt (now (guide .entry)) k) (now (e .entry)) ⌝ }
 {
-    let kind = tables::kind_of(tables::number(guide, k, KIND));
+    let row = tables::element_at(guide, k);
+    let kind = row.kind;
     if !is_spelled(e, kind) {
         return 6;
     }
-    let size = size(e, kind);
-    if size < limit(guide, k, SHORTEST) {
+    let length = value_length(e, kind);
+    if length < row.shortest {
         return 4;
     }
-    if limit(guide, k, LONGEST) < size {
+    if row.longest < length {
         return 5;
     }
     if is_unlisted(e, guide, k) {
@@ -152,7 +115,7 @@ fn value_code(e: &[u8], guide: &[[u16; 6]], k: usize) -> u8
 
 // The code of an element's value by row k, 0 for none.
 fn element_code(e: &[u8], d: Delimiters, guide: &[[u16; 6]], k: usize) -> u8
-    ensures { λ r. ⌜ r ≡ rules.elementCode d (rowAt (now (guide .entry)) k) (now (e .entry)) ⌝ }
+    ensures { λ r. ⌜ r ≡ law.elementCode d (rowAt (now (guide .entry)) k) (now (e .entry)) ⌝ }
 {
     if e.len() == 0 {
         return empty_code(guide, k);
@@ -163,17 +126,32 @@ fn element_code(e: &[u8], d: Delimiters, guide: &[[u16; 6]], k: usize) -> u8
     value_code(e, guide, k)
 }
 
+// A type without a rule of its own.
+fn is_text(kind: Kind) -> bool
+    ensures { λ r. ⌜ r ≡ isText kind ⌝ }
+{
+    match kind {
+        Kind::AN => true,
+        Kind::ID => true,
+        Kind::N0 => false,
+        Kind::DT => false,
+        Kind::TM => false,
+    }
+}
+
 // Row k asks of a text only how long it is, and takes this length.
 fn takes_length(n: usize, guide: &[[u16; 6]], k: usize) -> bool
-    ensures { λ r. ⌜ r ≡ takesLength (now (guide .entry)) k n ⌝ }
+    ensures { λ r. ⌜ r ≡ takesLength (rowAt (now (guide .entry)) k) n ⌝ }
 {
-    if tables::ID < tables::number(guide, k, KIND) {
+    let row = tables::element_at(guide, k);
+    let kind = row.kind;
+    if !is_text(kind) {
         return false;
     }
-    if tables::has_values(guide, below(guide, k)) {
+    if tables::has_values(guide, k) {
         return false;
     }
-    limit(guide, k, SHORTEST) <= n && n <= limit(guide, k, LONGEST)
+    row.shortest <= n && n <= row.longest
 }
 
 // A value of valid bytes has no code by row k. Most rows ask only for its length, so that is tried first.
@@ -187,18 +165,18 @@ fn takes(e: &[u8], guide: &[[u16; 6]], k: usize) -> bool
 }
 
 // The place at i, 0 past the end.
-fn place_at(places: &[u16], i: usize) -> usize
+fn place_at(places: &[usize], i: usize) -> usize
     ensures { λ r. ⌜ r ≡ getD (now (places .entry)) i 0 ⌝ }
 {
     if i < places.len() {
-        return wide(places[i]);
+        return places[i];
     }
     0
 }
 
 // n is one of the places.
-fn is_place(n: usize, places: &[u16]) -> bool
-    ensures { λ r. ⌜ r ≡ rules.isPlace n (now (places .entry)) ⌝ }
+fn is_place(n: usize, places: &[usize]) -> bool
+    ensures { λ r. ⌜ r ≡ law.isPlace n (now (places .entry)) ⌝ }
 {
     let mut i = 0;
     while i < places.len() {
@@ -211,8 +189,8 @@ fn is_place(n: usize, places: &[u16]) -> bool
 }
 
 // One of the places is present.
-fn any_present(s: &[u8], e: u8, places: &[u16]) -> bool
-    ensures { λ r. ⌜ r ≡ any (rules.present (split e (now (s .entry)))) (now (places .entry)) ⌝ }
+fn any_present(s: &[u8], e: u8, places: &[usize]) -> bool
+    ensures { λ r. ⌜ r ≡ any (law.present (split e (now (s .entry)))) (now (places .entry)) ⌝ }
 {
     let mut i = 0;
     while i < places.len() {
@@ -225,8 +203,8 @@ fn any_present(s: &[u8], e: u8, places: &[u16]) -> bool
 }
 
 // The places after the first present one.
-fn after_present<'a>(s: &[u8], e: u8, places: &'a [u16]) -> &'a [u16]
-    ensures { λ r. ⌜ now r ≡ rules.afterPresent (split e (now (s .entry))) (now (places .entry)) ⌝ }
+fn after_present<'a>(s: &[u8], e: u8, places: &'a [usize]) -> &'a [usize]
+    ensures { λ r. ⌜ now r ≡ law.afterPresent (split e (now (s .entry))) (now (places .entry)) ⌝ }
 {
     let mut i = 0;
     while i < places.len() {
@@ -240,8 +218,8 @@ fn after_present<'a>(s: &[u8], e: u8, places: &'a [u16]) -> &'a [u16]
 }
 
 // P: another place is present, and n is absent.
-fn lacks_pair(s: &[u8], e: u8, places: &[u16], n: usize) -> bool
-    ensures { λ r. ⌜ r ≡ rules.lacking (split e (now (s .entry))) Relation.P (now (places .entry)) n ⌝ }
+fn lacks_pair(s: &[u8], e: u8, places: &[usize], n: usize) -> bool
+    ensures { λ r. ⌜ r ≡ law.lacking (split e (now (s .entry))) Relation.P (now (places .entry)) n ⌝ }
 {
     if !is_place(n, places) {
         return false;
@@ -253,8 +231,8 @@ fn lacks_pair(s: &[u8], e: u8, places: &[u16], n: usize) -> bool
 }
 
 // R: none is present, and n is the first.
-fn lacks_one(s: &[u8], e: u8, places: &[u16], n: usize) -> bool
-    ensures { λ r. ⌜ r ≡ rules.lacking (split e (now (s .entry))) Relation.R (now (places .entry)) n ⌝ }
+fn lacks_one(s: &[u8], e: u8, places: &[usize], n: usize) -> bool
+    ensures { λ r. ⌜ r ≡ law.lacking (split e (now (s .entry))) Relation.R (now (places .entry)) n ⌝ }
 {
     if places.len() == 0 {
         return false;
@@ -266,8 +244,8 @@ fn lacks_one(s: &[u8], e: u8, places: &[u16], n: usize) -> bool
 }
 
 // E: n is present after another.
-fn is_second(s: &[u8], e: u8, places: &[u16], n: usize) -> bool
-    ensures { λ r. ⌜ r ≡ rules.excluded (split e (now (s .entry))) Relation.E (now (places .entry)) n ⌝ }
+fn is_second(s: &[u8], e: u8, places: &[usize], n: usize) -> bool
+    ensures { λ r. ⌜ r ≡ law.excluded (split e (now (s .entry))) Relation.E (now (places .entry)) n ⌝ }
 {
     if !segments::is_present(s, e, n) {
         return false;
@@ -276,8 +254,8 @@ fn is_second(s: &[u8], e: u8, places: &[u16], n: usize) -> bool
 }
 
 // C: the first is present, and n of the others is absent.
-fn lacks_other(s: &[u8], e: u8, places: &[u16], n: usize) -> bool
-    ensures { λ r. ⌜ r ≡ rules.lacking (split e (now (s .entry))) Relation.C (now (places .entry)) n ⌝ }
+fn lacks_other(s: &[u8], e: u8, places: &[usize], n: usize) -> bool
+    ensures { λ r. ⌜ r ≡ law.lacking (split e (now (s .entry))) Relation.C (now (places .entry)) n ⌝ }
 {
     if places.len() == 0 {
         return false;
@@ -292,8 +270,8 @@ fn lacks_other(s: &[u8], e: u8, places: &[u16], n: usize) -> bool
 }
 
 // L: the first is present and no other, and n is the second.
-fn lacks_any_other(s: &[u8], e: u8, places: &[u16], n: usize) -> bool
-    ensures { λ r. ⌜ r ≡ rules.lacking (split e (now (s .entry))) Relation.L (now (places .entry)) n ⌝ }
+fn lacks_any_other(s: &[u8], e: u8, places: &[usize], n: usize) -> bool
+    ensures { λ r. ⌜ r ≡ law.lacking (split e (now (s .entry))) Relation.L (now (places .entry)) n ⌝ }
 {
     if places.len() < 2 {
         return false;
@@ -308,7 +286,7 @@ fn lacks_any_other(s: &[u8], e: u8, places: &[u16], n: usize) -> bool
 }
 
 // The relation between the places is broken at place n: an element lacks there, or one is shut out.
-fn is_broken(relation: Relation, s: &[u8], e: u8, places: &[u16], n: usize) -> bool
+fn is_broken(relation: Relation, s: &[u8], e: u8, places: &[usize], n: usize) -> bool
     ensures { λ r. ⌜ r ≡ breaksBy (split e (now (s .entry))) n relation (now (places .entry)) ⌝ }
 {
     match relation {
@@ -320,28 +298,18 @@ fn is_broken(relation: Relation, s: &[u8], e: u8, places: &[u16], n: usize) -> b
     }
 }
 
-// The numbers before the first 0.
-fn filled(numbers: &[u16]) -> &[u16]
-    ensures { λ r. ⌜ now r ≡ rows.filled (now (numbers .entry)) ⌝ }
+// Row k is a note that is broken at place n.
+fn breaks_note(s: &[u8], e: u8, guide: &[[u16; 6]], k: usize, n: usize) -> bool
+    ensures { λ r. ⌜ r ≡ (rows.isRow 4 (getD (now (guide .entry)) k []) && breaks (split e (now (s .entry))) n (noteAt (now (guide .entry)) k)) ⌝ }
 {
-    let mut i = 0;
-    while i < numbers.len() {
-        if numbers[i] == 0 {
-            return &numbers[..i];
-        }
-        i += 1;
-    }
-    numbers
-}
-
-// The row is a note that is broken at place n.
-fn breaks_note(s: &[u8], e: u8, row: [u16; 6], n: usize) -> bool
-    ensures { λ r. ⌜ r ≡ (rows.isRow 4 row && breaks (split e (now (s .entry))) n (noteIs row)) ⌝ }
-{
-    if row[0] != tables::NOTE {
+    if !tables::is_note(guide, k) {
         return false;
     }
-    is_broken(tables::relation_of(row[1]), s, e, filled(&row[2..6]), n)
+    let relation = tables::relation_at(guide, k);
+    let places = tables::places_at(guide, k);
+    let numbers = places.numbers;
+    let count = places.count;
+    is_broken(relation, s, e, &numbers[..count], n)
 }
 
 // A note from row `from` on is broken at place n.
@@ -353,7 +321,7 @@ fn breaks_notes(s: &[u8], e: u8, guide: &[[u16; 6]], from: usize, n: usize) -> b
         if tables::is_segment(guide, k) {
             return false;
         }
-        if breaks_note(s, e, guide[k], n) {
+        if breaks_note(s, e, guide, k, n) {
             return true;
         }
         k += 1;
@@ -361,17 +329,28 @@ fn breaks_notes(s: &[u8], e: u8, guide: &[[u16; 6]], from: usize, n: usize) -> b
     false
 }
 
-// The row is a note that can be broken where an element is present, or where it is absent.
+// E shuts out what is present; each other relation asks for what is absent.
+fn shuts_out(relation: Relation) -> bool
+    ensures { λ r. ⌜ r ≡ isE relation ⌝ }
+{
+    match relation {
+        Relation::P => false,
+        Relation::R => false,
+        Relation::E => true,
+        Relation::C => false,
+        Relation::L => false,
+    }
+}
+
+// Row k is a note that can be broken where an element is present, or where it is absent.
 fn concerns(guide: &[[u16; 6]], k: usize, present: bool) -> bool
-    ensures { λ r. ⌜ r ≡ (rows.isRow 4 (getD (now (guide .entry)) k []) && concerns present (noteIs (getD (now (guide .entry)) k []))) ⌝ }
+    ensures { λ r. ⌜ r ≡ (rows.isRow 4 (getD (now (guide .entry)) k []) && concerns present (noteAt (now (guide .entry)) k)) ⌝ }
 {
     if !tables::is_note(guide, k) {
         return false;
     }
-    if present {
-        return tables::number(guide, k, RELATION) == tables::E;
-    }
-    tables::number(guide, k, RELATION) != tables::E
+    let shuts = shuts_out(tables::relation_at(guide, k));
+    if present { shuts } else { !shuts }
 }
 
 // Such a note stands from row `from` on.
@@ -393,7 +372,7 @@ fn concerns_any(guide: &[[u16; 6]], from: usize, present: bool) -> bool
 
 // A note from row `from` on is broken at place n, which is present or absent.
 fn breaks_any(s: &[u8], e: u8, guide: &[[u16; 6]], from: usize, n: usize, present: bool) -> bool
-    requires { ⌜ present ≡ rules.present (split e (now s)) n ⌝ }
+    requires { ⌜ present ≡ law.present (split e (now s)) n ⌝ }
     ensures { λ r. ⌜ r ≡ any (breaks (split e (now (s .entry))) n) (rows.syntaxIn (drop from (now (guide .entry)))) ⌝ }
 {
     concerns_any(guide, from, present) && breaks_notes(s, e, guide, from, n)
@@ -429,7 +408,7 @@ pub fn next_code(
 {
     let field = segments::field(s, d.element, n);
     let present = 0 < field.len();
-    let broken = breaks_notes(s, d.element, guide, below(guide, entry), n);
+    let broken = breaks_notes(s, d.element, guide, tables::below(guide, entry), n);
     let own = element_code(field, d, guide, k);
     if told | (own == 0) {
         return Coded {
@@ -482,9 +461,9 @@ fn ends_field(s: &[u8], e: u8, i: usize) -> bool
 
 // The segment has no finding by its entry.
 pub fn is_clean(s: &[u8], d: Delimiters, guide: &[[u16; 6]], entry: usize) -> bool
-    ensures { λ r. ⌜ r ≡ null (rules.findings d (entryAt (now (guide .entry)) entry) (split (d .element) (now (s .entry)))) ⌝ }
+    ensures { λ r. ⌜ r ≡ null (law.findings d (entryAt (now (guide .entry)) entry) (split (d .element) (now (s .entry)))) ⌝ }
 {
-    let mut k = below(guide, entry);
+    let mut k = tables::below(guide, entry);
     let notes = first_note(guide, k);
     // Place n comes next, after the field that ends at `end`.
     let mut n: usize = 1;

@@ -1,13 +1,12 @@
 // The walk of a set through its table: a cursor goes in by value, and what one step tells comes back with the next cursor.
 ghost use mathlib.Core.Path.{_≡_};
 ghost use mathlib.Core.Bool.{_&&_, not};
-ghost use mathlib.Core.List.{[]};
 ghost use Prim.Native.Nat.{_+_, _<_};
 ghost use lib.Dec.{ltb};
 ghost use lib.ListN.{length, getD};
 ghost use Rattle.rules.specs.Base.{all, between, isUpperOrDigit, null, if_then_else_};
 ghost use Rattle.rules.specs.Cutting as cutting;
-ghost use Rattle.tables.specs.Rows as law;
+ghost use Rattle.tables.specs.Reading.{entryAt};
 ghost use Rattle.findings.specs.Steps as steps;
 ghost use Rattle.findings.specs.Left as rest;
 ghost use Rattle.findings.specs.Turns as turns;
@@ -72,11 +71,6 @@ pub enum Step {
     Element(Finding, Walk),
     Done,
 }
-
-// The columns of a guide's rows: the reference number of an element, and how often a segment may be used.
-const REFERENCE: usize = 1;
-
-const MOST: usize = 5;
 
 const LARGEST: usize = 18446744073709551615;
 
@@ -214,14 +208,14 @@ fn stayed(w: Walk, end: usize, own: u8, check: usize) -> Walk
 
 // A use of the entry in row k is beyond its maximum.
 fn is_over(guide: &[[u16; 6]], k: usize, used: usize) -> bool
-    ensures { λ r. ⌜ r ≡ ltb (law.column (getD (now (guide .entry)) k []) 5) used ⌝ }
+    ensures { λ r. ⌜ r ≡ ltb (entryAt (now (guide .entry)) k .most) used ⌝ }
 {
-    (tables::number(guide, k, MOST) as usize) < used
+    tables::most_uses(guide, k) < used
 }
 
 // The code of a use of the entry in row k.
 fn use_code(guide: &[[u16; 6]], k: usize, used: usize) -> u8
-    ensures { λ r. ⌜ r ≡ (if ltb (law.column (getD (now (guide .entry)) k []) 5) used then 5 else 0) ⌝ }
+    ensures { λ r. ⌜ r ≡ (if ltb (entryAt (now (guide .entry)) k .most) used then 5 else 0) ⌝ }
 {
     if is_over(guide, k, used) {
         return 5;
@@ -408,8 +402,8 @@ fn element(
     if coded.code == 0 {
         return Step::Quiet(onward);
     }
-    let reference = tables::number(guide, k, REFERENCE);
-    Step::Element(Finding::new(n, reference, coded.code), onward)
+    let row = tables::element_at(guide, k);
+    Step::Element(Finding::new(n, row.reference, coded.code), onward)
 }
 
 // Code 3 where the segment in hand has an element at place n, beyond its rows.

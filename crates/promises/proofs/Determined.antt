@@ -15,8 +15,9 @@ use Rattle.notes.specs.Saying.{Tells}
 use Rattle.notes.specs.declared.Told.{Told}
 use Rattle.rules.proofs.Delimiters.new.Reads as rules-Delimiters-new
 use Rattle.rules.proofs.Finding.new.Reads as rules-Finding-new
-use Rattle.text.proofs.find.Reads as text-find
 use Rattle.text.proofs.find_near.Reads as text-find-near
+use Rattle.text.proofs.find.Reads as text-find
+use Rattle.text.proofs.part.Reads as text-part
 use Rattle.text.proofs.same_bytes.Reads as text-same-bytes
 use Rattle.text.proofs.all_digits.Reads as text-all-digits
 use Rattle.text.proofs.is_digits.Reads as text-is-digits
@@ -46,7 +47,6 @@ use Rattle.headers.proofs.trailer_refusal.Reads as headers-trailer-refusal
 use Rattle.headers.proofs.header_refusal.Reads as headers-header-refusal
 use Rattle.headers.proofs.answer_refusal.Reads as headers-answer-refusal
 use Rattle.sets.proofs.next_set.Reads as sets-next-set
-use Rattle.text.proofs.part.Reads as text-part
 use Rattle.sets.proofs.set_refusal.Reads as sets-set-refusal
 use Rattle.register.proofs.search.Reads as register-search
 use Rattle.refusals.proofs.check.Reads as refusals-check
@@ -59,16 +59,18 @@ use Rattle.verdicts.proofs.group_codes.Reads as verdicts-group-codes
 use Rattle.verdicts.proofs.declared_sets.Reads as verdicts-declared-sets
 use Rattle.verdicts.proofs.verdict.Reads as verdicts-verdict
 use Rattle.verdicts.proofs.allowed.Reads as verdicts-allowed
-use Rattle.tables.proofs.number.Reads as tables-number
 use Rattle.tables.proofs.is_segment.Reads as tables-is-segment
 use Rattle.tables.proofs.is_element.Reads as tables-is-element
 use Rattle.tables.proofs.is_note.Reads as tables-is-note
-use Rattle.tables.proofs.kind_of.Reads as tables-kind-of
-use Rattle.tables.proofs.relation_of.Reads as tables-relation-of
+use Rattle.tables.proofs.below.Reads as tables-below
+use Rattle.tables.proofs.most_uses.Reads as tables-most-uses
+use Rattle.tables.proofs.element_at.Reads as tables-element-at
+use Rattle.tables.proofs.relation_at.Reads as tables-relation-at
+use Rattle.tables.proofs.places_at.Reads as tables-places-at
 use Rattle.tables.proofs.is_entry.Reads as tables-is-entry
-use Rattle.tables.proofs.next_in_order.Reads as tables-next-in-order
 use Rattle.tables.proofs.reach.Reads as tables-reach
 use Rattle.tables.proofs.next_mandatory.Reads as tables-next-mandatory
+use Rattle.tables.proofs.next_in_order.Reads as tables-next-in-order
 use Rattle.tables.proofs.has_values.Reads as tables-has-values
 use Rattle.tables.proofs.is_listed.Reads as tables-is-listed
 use Rattle.tables.proofs.id_at.Reads as tables-id-at
@@ -149,11 +151,14 @@ rules-Finding-new-once : Determined rules-Finding-new.Pre rules-Finding-new.Post
 rules-Finding-new-once = ((λ κs a. tt), λ κs a r₁ r₂ s₁ s₂ p q. p ∙ sym q)
 
 -- text
+text-find-near-once : Determined text-find-near.Pre text-find-near.Post (λ κs r s. r)
+text-find-near-once = ((λ κs a. tt), λ κs a r₁ r₂ s₁ s₂ p q. p ∙ sym q)
+
 text-find-once : Determined text-find.Pre text-find.Post (λ κs r s. r)
 text-find-once = ((λ κs a. tt), λ κs a r₁ r₂ s₁ s₂ p q. p ∙ sym q)
 
-text-find-near-once : Determined text-find-near.Pre text-find-near.Post (λ κs r s. r)
-text-find-near-once = ((λ κs a. tt), λ κs a r₁ r₂ s₁ s₂ p q. p ∙ sym q)
+text-part-once : Determined text-part.Pre text-part.Post (λ κs r s. now r)
+text-part-once = ((λ κs a. tt), λ κs a r₁ r₂ s₁ s₂ p q. p ∙ sym q)
 
 text-same-bytes-once : Determined text-same-bytes.Pre text-same-bytes.Post (λ κs r s. r)
 text-same-bytes-once = ((λ κs a. tt), λ κs a r₁ r₂ s₁ s₂ p q. p ∙ sym q)
@@ -248,9 +253,6 @@ headers-answer-refusal-once = ((λ κs a. tt), λ κs a r₁ r₂ s₁ s₂ p q.
 sets-next-set-once : Determined sets-next-set.Pre sets-next-set.Post (λ κs r s. r)
 sets-next-set-once = ((λ κs a. tt), λ κs a r₁ r₂ s₁ s₂ p q. p ∙ sym q)
 
-text-part-once : Determined text-part.Pre text-part.Post (λ κs r s. now r)
-text-part-once = ((λ κs a. tt), λ κs a r₁ r₂ s₁ s₂ p q. p ∙ sym q)
-
 sets-set-refusal-once : Determined sets-set-refusal.Pre sets-set-refusal.Post (λ κs r s. r)
 sets-set-refusal-once = ((λ κs a. tt), λ κs a r₁ r₂ s₁ s₂ p q. p ∙ sym q)
 
@@ -291,9 +293,6 @@ verdicts-allowed-once : Determined verdicts-allowed.Pre verdicts-allowed.Post (�
 verdicts-allowed-once = ((λ κs a. tt), λ κs a r₁ r₂ s₁ s₂ p q. p ∙ sym q)
 
 -- tables
-tables-number-once : Determined tables-number.Pre tables-number.Post (λ κs r s. r)
-tables-number-once = ((λ κs a. tt), λ κs a r₁ r₂ s₁ s₂ p q. p ∙ sym q)
-
 tables-is-segment-once : Determined tables-is-segment.Pre tables-is-segment.Post (λ κs r s. r)
 tables-is-segment-once = ((λ κs a. tt), λ κs a r₁ r₂ s₁ s₂ p q. p ∙ sym q)
 
@@ -303,23 +302,32 @@ tables-is-element-once = ((λ κs a. tt), λ κs a r₁ r₂ s₁ s₂ p q. p �
 tables-is-note-once : Determined tables-is-note.Pre tables-is-note.Post (λ κs r s. r)
 tables-is-note-once = ((λ κs a. tt), λ κs a r₁ r₂ s₁ s₂ p q. p ∙ sym q)
 
-tables-kind-of-once : Determined tables-kind-of.Pre tables-kind-of.Post (λ κs r s. r)
-tables-kind-of-once = ((λ κs a. tt), λ κs a r₁ r₂ s₁ s₂ p q. p ∙ sym q)
+tables-below-once : Determined tables-below.Pre tables-below.Post (λ κs r s. r)
+tables-below-once = ((λ κs a. tt), λ κs a r₁ r₂ s₁ s₂ p q. p ∙ sym q)
 
-tables-relation-of-once : Determined tables-relation-of.Pre tables-relation-of.Post (λ κs r s. r)
-tables-relation-of-once = ((λ κs a. tt), λ κs a r₁ r₂ s₁ s₂ p q. p ∙ sym q)
+tables-most-uses-once : Determined tables-most-uses.Pre tables-most-uses.Post (λ κs r s. r)
+tables-most-uses-once = ((λ κs a. tt), λ κs a r₁ r₂ s₁ s₂ p q. p ∙ sym q)
+
+tables-element-at-once : Determined tables-element-at.Pre tables-element-at.Post (λ κs r s. r)
+tables-element-at-once = ((λ κs a. tt), λ κs a r₁ r₂ s₁ s₂ p q. p ∙ sym q)
+
+tables-relation-at-once : Determined tables-relation-at.Pre tables-relation-at.Post (λ κs r s. r)
+tables-relation-at-once = ((λ κs a. tt), λ κs a r₁ r₂ s₁ s₂ p q. p ∙ sym q)
+
+tables-places-at-once : Determined tables-places-at.Pre tables-places-at.Post (λ κs r s. r)
+tables-places-at-once = ((λ κs a. tt), λ κs a r₁ r₂ s₁ s₂ p q. p ∙ sym q)
 
 tables-is-entry-once : Determined tables-is-entry.Pre tables-is-entry.Post (λ κs r s. r)
 tables-is-entry-once = ((λ κs a. tt), λ κs a r₁ r₂ s₁ s₂ p q. p ∙ sym q)
-
-tables-next-in-order-once : Determined tables-next-in-order.Pre tables-next-in-order.Post (λ κs r s. r)
-tables-next-in-order-once = ((λ κs a. tt), λ κs a r₁ r₂ s₁ s₂ p q. p ∙ sym q)
 
 tables-reach-once : Determined tables-reach.Pre tables-reach.Post (λ κs r s. r)
 tables-reach-once = ((λ κs a. tt), λ κs a r₁ r₂ s₁ s₂ p q. p ∙ sym q)
 
 tables-next-mandatory-once : Determined tables-next-mandatory.Pre tables-next-mandatory.Post (λ κs r s. r)
 tables-next-mandatory-once = ((λ κs a. tt), λ κs a r₁ r₂ s₁ s₂ p q. p ∙ sym q)
+
+tables-next-in-order-once : Determined tables-next-in-order.Pre tables-next-in-order.Post (λ κs r s. r)
+tables-next-in-order-once = ((λ κs a. tt), λ κs a r₁ r₂ s₁ s₂ p q. p ∙ sym q)
 
 tables-has-values-once : Determined tables-has-values.Pre tables-has-values.Post (λ κs r s. r)
 tables-has-values-once = ((λ κs a. tt), λ κs a r₁ r₂ s₁ s₂ p q. p ∙ sym q)
@@ -445,7 +453,8 @@ first-line-put-refused-once = ((λ κs a. tt), λ κs a r₁ r₂ s₁ s₂ p q.
 
 -- acknowledgment
 acknowledgment-acknowledge-once : Determined acknowledgment-acknowledge.Pre acknowledgment-acknowledge.Post (λ κs r s. beside r (now (s .1 .0)))
-acknowledgment-acknowledge-once = ((λ κs a. tt), λ κs a r₁ r₂ s₁ s₂ p q. both-same (once-answer _ _ _ _ _ _ _ p q) (ap (λ (o : Outcome). o .buffer) (once _ _ _ _ _ _ _ p q)))
+acknowledgment-acknowledge-once =
+    ((λ κs a. tt), λ κs a r₁ r₂ s₁ s₂ p q. both-same (once-answer _ _ _ _ _ _ _ p q) (ap (λ (o : Outcome). o .buffer) (once _ _ _ _ _ _ _ p q)))
 
 acknowledgment-x12-acknowledge-once : Determined acknowledgment-x12-acknowledge.Pre acknowledgment-x12-acknowledge.Post (λ κs r s. beside (beside r (now (s .1 .0))) (now (s .1 .1 .1 .1 .1 .0)))
 acknowledgment-x12-acknowledge-once =

@@ -43,8 +43,8 @@ unsigned [] = []
 unsigned (b ∷ bs) = if eqb b 45 then bs else b ∷ bs
 
 -- how long a value is: of a number its digits count
-abbrev pub size : Kind → Bytes → ℕ
-size k e = length (if isN0 k then unsigned e else e)
+abbrev pub valueLength : Kind → Bytes → ℕ
+valueLength k e = length (if isN0 k then unsigned e else e)
 
 -- all bytes are valid, and those of a number are digits after an optional minus
 abbrev pub spelled : Delimiters → Kind → Bytes → Bool
@@ -56,8 +56,8 @@ elementCode d r e =
     if null e then first ((r .mandatory ⇒ 1) ∷ [])
     else first (
     (not (spelled d (r .kind) e) ⇒ 6) ∷
-    (ltb (size (r .kind) e) (r .shortest) ⇒ 4) ∷
-    (ltb (r .longest) (size (r .kind) e) ⇒ 5) ∷
+    (ltb (valueLength (r .kind) e) (r .shortest) ⇒ 4) ∷
+    (ltb (r .longest) (valueLength (r .kind) e) ⇒ 5) ∷
     (not (null (r .codes)) && not (member e (r .codes)) ⇒ 7) ∷
     (isDT (r .kind) && not (isDate e) ⇒ 8) ∷
     (isTM (r .kind) && not (isTime e) ⇒ 9) ∷

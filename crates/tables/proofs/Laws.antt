@@ -10,10 +10,13 @@ use borrow.Author.Tests.{ne-eqb, eqb-true, ltb-true, ltb-false}
 use lib.Dec.{eqb, ltb, lit<}
 use lib.ListN.{length, getD, take, drop, drop-of-length-le, List·getD-eq-default}
 use lib.Seq.{drop-cons, getD-drop, getD-take}
-use Rattle.rules.specs.Base.{Bytes, same, null, all, any, member}
-use Rattle.tables.specs.Rows.{isRow, filled, codesIn, rowsIn, syntaxIn}
+use Rattle.rules.specs.Base.{Bytes, same, null, all, any, member, if_then_else_}
+use Rattle.tables.specs.Rows.{column, isRow, filled, codesIn, rowsIn, syntaxIn}
 use Rattle.rules.proofs.Logic.{and-left, and-right, all-at}
-use Rattle.tables.specs.Reading.{Guide, isByte, entryAt, rowAt, noteAt, codesAt, idIn, idAt, idBytes, idsAreBytes}
+use Rattle.text.proofs.Search.{find-le}
+use Rattle.tables.specs.declared.Places.{Places}
+use Rattle.tables.specs.Reading.{Guide, isByte, entryAt, rowAt, noteAt, codesAt, rowBelow, placesAt, idIn, idAt, idBytes, idsAreBytes}
+use Rattle.tables.proofs.Numbers.{filled-take}
 
 -- 1. What is left from row k on.
 -- a row that is something stands before the end
@@ -43,6 +46,14 @@ module _ (rows : Guide) (k : ℕ) where
 
   past : length rows ≤ k → drop k rows ≡ drop (k + 1) rows
   past h = none h ∙ sym (drop-of-length-le rows {i = k + 1} (omega arith))
+
+  -- from the row below on, what follows row k is left
+  pub below-rest : {below : ℕ} → below ≡ rowBelow rows k → drop below rows ≡ drop (k + 1) rows
+  below-rest h = rw h (go (ltb k (length rows)) refl)
+    where
+      go : (b : Bool) → ltb k (length rows) ≡ b → drop (if b then k + 1 else k) rows ≡ drop (k + 1) rows
+      go true e = refl
+      go false e = past (ltb-false _ _ e)
 
   -- the elements of a segment
   pub rows-here : isRow 2 (getD rows k []) ≡ true → rowsIn (drop k rows) ≡ rowAt rows k ∷ rowsIn (drop (k + 1) rows)
@@ -110,7 +121,27 @@ module _ (rows : Guide) (k : ℕ) where
       go true e = rw (codes-here e)
       go false e = rw (codes-stop e)
 
--- 2. An id by value.
+-- 2. The places of a note by value.
+four : (r : List ℕ) → filled (column r 2 ∷ column r 3 ∷ column r 4 ∷ column r 5 ∷ []) ≡ filled (take 4 (drop 2 r))
+unfolding filled
+four [] = refl
+four (a ∷ []) = refl
+four (a ∷ (b ∷ [])) = refl
+four (a ∷ (b ∷ (c ∷ []))) = refl
+four (a ∷ (b ∷ (c ∷ (d ∷ [])))) = refl
+four (a ∷ (b ∷ (c ∷ (d ∷ (e ∷ []))))) = refl
+four (a ∷ (b ∷ (c ∷ (d ∷ (e ∷ (f ∷ r)))))) = refl
+
+module _ (rows : Guide) (k : ℕ) {p : Places} (e : p ≡ placesAt rows k) where
+  -- the count is within the numbers
+  pub places-within : p .count ≤ length (p .numbers)
+  places-within = rw e (omega (arith, find-le 0 (placesAt rows k .numbers) 0 (omega arith)))
+
+  -- as many of them as it says are the note's places
+  pub places-named : take (p .count) (p .numbers) ≡ noteAt rows k .places
+  places-named = rw e (filled-take (placesAt rows k .numbers) ∙ four (getD rows k []))
+
+-- 3. An id by value.
 byte-at : (xs : List ℕ) (i : ℕ) → all isByte xs ≡ true → getD xs i 0 < 256
 unfolding all
 byte-at [] zero e = lit< tt

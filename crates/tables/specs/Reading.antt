@@ -8,8 +8,10 @@ use lib.ListN.{length, getD, take, drop}
 use Rattle.rules.specs.Base.{Bytes, same, all, if_then_else_}
 use Rattle.rules.specs.Tables.{Row, Syntax, Entry}
 use Rattle.tables.specs.Rows.{column, isRow, filled, relationOf, codesIn, rowIs, entryIs}
-use Rattle.text.specs.Text.{nextWhere}
+use Rattle.text.specs.Text.{nextWhere, indexOf}
 use Rattle.tables.specs.declared.SegmentId.{SegmentId}
+use Rattle.tables.specs.declared.ElementRow.{ElementRow}
+use Rattle.tables.specs.declared.Places.{Places}
 
 abbrev pub Guide : Type 0
 Guide = List (List ℕ)
@@ -28,10 +30,31 @@ abbrev pub rowAt : Guide → ℕ → Row
 rowAt rows k = rowIs (getD rows k []) (codesIn (drop (k + 1) rows))
 
 abbrev pub noteAt : Guide → ℕ → Syntax
-noteAt rows k = record { relation = relationOf (column (getD rows k []) 1); places = filled (drop 2 (getD rows k [])) }
+noteAt rows k = record { relation = relationOf (column (getD rows k []) 1); places = filled (take 4 (drop 2 (getD rows k []))) }
 
 abbrev pub codesAt : Guide → ℕ → List Bytes
 codesAt rows k = codesIn (drop k rows)
+
+-- the row below row k; past the end there is none, whatever the number
+abbrev pub rowBelow : Guide → ℕ → ℕ
+rowBelow rows k = if ltb k (length rows) then k + 1 else k
+
+-- an element's row by value, all but its code values
+abbrev pub elementRow : Row → ElementRow
+elementRow r = record {
+  reference = r .reference;
+  mandatory = r .mandatory;
+  kind = r .kind;
+  shortest = r .shortest;
+  longest = r .longest;
+}
+
+-- the places of the note that row k is, by value: the numbers after its relation, and how many stand before the first 0
+abbrev pub placesAt : Guide → ℕ → Places
+placesAt rows k =
+    let r = getD rows k [] in
+    let numbers = column r 2 ∷ column r 3 ∷ column r 4 ∷ column r 5 ∷ [] in
+    record { numbers = numbers; count = indexOf 0 numbers }
 
 -- the three numbers of a segment row's id
 abbrev pub idIn : List ℕ → List ℕ

@@ -1,8 +1,8 @@
 -- A table as rows of six numbers, and what they mean. The first number tells what a row is:
 --    1  a segment:      its id as three numbers (the third 0 where it has two bytes), 1 where it is mandatory, how often it may stand
 --    2  its element:    reference number, 1 where it is mandatory, type (0 AN, 1 ID, 2 N0, 3 DT, 4 TM), shortest, longest
---    3  the element's code value: its bytes, then 0
---    4  a syntax note:  relation (0 P, 1 R, 2 E, 3 C, 4 L), and its places, then 0
+--    3  the element's code value: its bytes, five at most, then 0
+--    4  a syntax note:  relation (0 P, 1 R, 2 E, 3 C, 4 L), and its places, four at most, then 0
 use Prim.Native.Nat.{ℕ}
 use mathlib.Core.Bool.{Bool}
 use mathlib.Core.List.{List, [], _∷_}
@@ -65,7 +65,7 @@ syntaxIn [] = []
 syntaxIn (r ∷ rs) =
     let more = syntaxIn rs in
     if isRow 1 r then []
-    else (if isRow 4 r then record { relation = relationOf (column r 1); places = filled (drop 2 r) } ∷ more else more)
+    else (if isRow 4 r then record { relation = relationOf (column r 1); places = filled (take 4 (drop 2 r)) } ∷ more else more)
 
 -- a segment by its row and the rows after it
 abbrev pub entryIs : List ℕ → List (List ℕ) → Entry

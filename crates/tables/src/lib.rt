@@ -5,9 +5,9 @@ ghost use mathlib.Core.List.{[]};
 ghost use Prim.Native.Nat.{_%_};
 ghost use lib.ListN.{getD, drop};
 ghost use Rattle.rules.specs.Base.{same, member, null};
-ghost use Rattle.tables.specs.Rows.{isRow, filled, kindOf, relationOf, idsIn};
-ghost use Rattle.text.specs.Text.{nextWhere};
-ghost use Rattle.tables.specs.Reading.{entryAt, codesAt, idIn, isEntryRow, isMandatoryRow, reachFrom, nextMandatory, nextInOrder, idAt};
+ghost use Rattle.tables.specs.Rows.{isRow, filled, kindOf, relationOf, rowIs, idsIn};
+ghost use Rattle.text.specs.Text.{nextWhere, indexOf};
+ghost use Rattle.tables.specs.Reading.{entryAt, rowAt, noteAt, codesAt, idIn, isEntryRow, isMandatoryRow, reachFrom, nextMandatory, nextInOrder, idAt, rowBelow, elementRow, placesAt};
 use rules::Kind;
 use rules::Relation;
 
@@ -47,11 +47,54 @@ pub const C: u16 = 3;
 
 pub const L: u16 = 4;
 
+// The columns of a segment's row after its id: whether it is mandatory, and how often it may be used.
+const NEED: usize = 4;
+
+const MOST: usize = 5;
+
+// The columns of an element's row.
+const REFERENCE: usize = 1;
+
+const MANDATORY: usize = 2;
+
+const KIND: usize = 3;
+
+const SHORTEST: usize = 4;
+
+const LONGEST: usize = 5;
+
+// The columns of a note's row: its relation, and from the second on its places.
+const RELATION: usize = 1;
+
+// A row that is nothing.
+const NO_ROW: [u16; 6] = [0, 0, 0, 0, 0, 0];
+
 // The id of a segment by value: two or three bytes, the third 0 where there are two.
 pub struct SegmentId {
     pub first: u8,
     pub second: u8,
     pub third: u8,
+}
+
+// An element's row by value. Its code values stay in the guide.
+pub struct ElementRow {
+    pub reference: u16,
+    pub mandatory: bool,
+    pub kind: Kind,
+    pub shortest: usize,
+    pub longest: usize,
+}
+
+// The places that a note names, in their order: as many of the numbers as the count says.
+pub struct Places {
+    pub numbers: [usize; 4],
+    pub count: usize,
+}
+
+fn wide(n: u16) -> usize
+    ensures { λ r. ⌜ r ≡ n ⌝ }
+{
+    n as usize
 }
 
 // The number at i, 0 past the end.
@@ -110,7 +153,7 @@ fn is_mandatory_row(row: [u16; 6]) -> bool
     if row[0] != SEGMENT {
         return false;
     }
-    row[4] == M
+    row[NEED] == M
 }
 
 fn column_of(row: [u16; 6], column: usize) -> u16
@@ -123,13 +166,19 @@ fn column_of(row: [u16; 6], column: usize) -> u16
 }
 
 // A number of row k, 0 past the end.
-pub fn number(guide: &[[u16; 6]], k: usize, column: usize) -> u16
+fn number(guide: &[[u16; 6]], k: usize, column: usize) -> u16
     ensures { λ r. ⌜ r ≡ getD (getD (now (guide .entry)) k []) column 0 ⌝ }
 {
     if k < guide.len() {
         return column_of(guide[k], column);
     }
     0
+}
+
+fn wide_number(guide: &[[u16; 6]], k: usize, column: usize) -> usize
+    ensures { λ r. ⌜ r ≡ getD (getD (now (guide .entry)) k []) column 0 ⌝ }
+{
+    wide(number(guide, k, column))
 }
 
 fn is_row(guide: &[[u16; 6]], what: u16, k: usize) -> bool
@@ -166,8 +215,7 @@ pub fn is_note(guide: &[[u16; 6]], k: usize) -> bool
     is_row(guide, NOTE, k)
 }
 
-// The type that a number of an element's row stands for.
-pub fn kind_of(n: u16) -> Kind
+fn kind_of(n: u16) -> Kind
     ensures { λ r. ⌜ r ≡ kindOf n ⌝ }
 {
     match n {
@@ -179,8 +227,7 @@ pub fn kind_of(n: u16) -> Kind
     }
 }
 
-// The relation that a number of a note's row stands for.
-pub fn relation_of(n: u16) -> Relation
+fn relation_of(n: u16) -> Relation
     ensures { λ r. ⌜ r ≡ relationOf n ⌝ }
 {
     match n {
@@ -190,6 +237,80 @@ pub fn relation_of(n: u16) -> Relation
         L => Relation::L,
         _ => Relation::P,
     }
+}
+
+// The row below row k; past the end there is none, whatever the number.
+pub fn below(guide: &[[u16; 6]], k: usize) -> usize
+    ensures { λ r. ⌜ r ≡ rowBelow (now (guide .entry)) k ⌝ }
+{
+    if k < guide.len() {
+        return k + 1;
+    }
+    k
+}
+
+// How often the segment of row k may be used.
+pub fn most_uses(guide: &[[u16; 6]], k: usize) -> usize
+    ensures { λ r. ⌜ r ≡ entryAt (now (guide .entry)) k .most ⌝ }
+{
+    wide_number(guide, k, MOST)
+}
+
+fn element_in(row: [u16; 6]) -> ElementRow
+    ensures { λ r. ⌜ r ≡ elementRow (rowIs row []) ⌝ }
+{
+    ElementRow {
+        reference: row[REFERENCE],
+        mandatory: row[MANDATORY] == M,
+        kind: kind_of(row[KIND]),
+        shortest: wide(row[SHORTEST]),
+        longest: wide(row[LONGEST]),
+    }
+}
+
+// The element of row k.
+pub fn element_at(guide: &[[u16; 6]], k: usize) -> ElementRow
+    ensures { λ r. ⌜ r ≡ elementRow (rowAt (now (guide .entry)) k) ⌝ }
+{
+    if k < guide.len() {
+        return element_in(guide[k]);
+    }
+    element_in(NO_ROW)
+}
+
+// The relation of the note in row k.
+pub fn relation_at(guide: &[[u16; 6]], k: usize) -> Relation
+    ensures { λ r. ⌜ r ≡ noteAt (now (guide .entry)) k .relation ⌝ }
+{
+    relation_of(number(guide, k, RELATION))
+}
+
+// How many numbers stand before the first 0.
+fn named(numbers: &[usize]) -> usize
+    ensures { λ r. ⌜ r ≡ indexOf 0 (now (numbers .entry)) ⌝ }
+{
+    let mut i = 0;
+    while i < numbers.len() {
+        if numbers[i] == 0 {
+            return i;
+        }
+        i += 1;
+    }
+    i
+}
+
+// The places of the note in row k.
+pub fn places_at(guide: &[[u16; 6]], k: usize) -> Places
+    ensures { λ r. ⌜ r ≡ placesAt (now (guide .entry)) k ⌝ }
+{
+    let numbers = [
+        wide_number(guide, k, 2),
+        wide_number(guide, k, 3),
+        wide_number(guide, k, 4),
+        wide_number(guide, k, 5),
+    ];
+    let count = named(&numbers);
+    Places { numbers, count }
 }
 
 // The id of row k is these bytes.
@@ -258,25 +379,32 @@ pub fn next_in_order(guide: &[[u16; 6]], from: usize, id: &[u8]) -> usize
     k
 }
 
-// Code values stand from row k on.
+// The element of row k has code values.
 pub fn has_values(guide: &[[u16; 6]], k: usize) -> bool
-    ensures { λ r. ⌜ r ≡ not (null (codesAt (now (guide .entry)) k)) ⌝ }
+    ensures { λ r. ⌜ r ≡ not (null (rowAt (now (guide .entry)) k .codes)) ⌝ }
 {
-    is_value(guide, k)
+    is_value(guide, below(guide, k))
 }
 
-// The value is one of the code values from row k on.
-pub fn is_listed(guide: &[[u16; 6]], k: usize, value: &[u8]) -> bool
-    ensures { λ r. ⌜ r ≡ member (now (value .entry)) (codesAt (now (guide .entry)) k) ⌝ }
+// The value is one of the code values from row `from` on.
+fn is_listed_from(guide: &[[u16; 6]], from: usize, value: &[u8]) -> bool
+    ensures { λ r. ⌜ r ≡ member (now (value .entry)) (codesAt (now (guide .entry)) from) ⌝ }
 {
-    let mut i = k;
-    while is_value(guide, i) {
-        if is_code(guide[i], value) {
+    let mut k = from;
+    while is_value(guide, k) {
+        if is_code(guide[k], value) {
             return true;
         }
-        i += 1;
+        k += 1;
     }
     false
+}
+
+// The value is one of the code values of the element in row k.
+pub fn is_listed(guide: &[[u16; 6]], k: usize, value: &[u8]) -> bool
+    ensures { λ r. ⌜ r ≡ member (now (value .entry)) (rowAt (now (guide .entry)) k .codes) ⌝ }
+{
+    is_listed_from(guide, below(guide, k), value)
 }
 
 fn low_byte(n: u16) -> u8

@@ -18,41 +18,28 @@ Inv-loop s e guide from n k₀ k = any (breaks (split e s) n) (syntaxIn (drop fr
 abbrev μ-loop : tie.MeasureT-loop
 μ-loop s e guide from n k₀ k = length guide - k
 
-loop-holds : tie.Need-loop-holds Inv-loop μ-loop
-loop-holds c = search needs
-
-is-segment-requires : tie.Need-is-segment-requires Inv-loop μ-loop
-is-segment-requires c κs = search needs
-
 returns : tie.Need-returns Inv-loop μ-loop
 returns c =
-    let a = c .before .before .before .before .before .args in
-    sym (c .before .before .before .loop .inv ∙ notes-over _ (a .guide .now) (c .before .before .before .loop .k) (sym (c .before .is-segment .ensures) ∙ c .if1 .taken))
-
-mul-breaks-note : tie.Need-mul-breaks-note Inv-loop μ-loop
-mul-breaks-note c = search needs
-
-shared-slice-copy-out-breaks-note : tie.Need-shared-slice-copy-out-breaks-note Inv-loop μ-loop
-shared-slice-copy-out-breaks-note c = search needs
-
-breaks-note-requires : tie.Need-breaks-note-requires Inv-loop μ-loop
-breaks-note-requires c κs = search needs
+    let loop = c .before .before .before in
+    sym (loop .loop .inv ∙ notes-over _ (loop .before .before .args .guide .now) (loop .loop .k) (sym (c .before .is-segment .ensures) ∙ c .if1 .taken))
 
 returns-2 : tie.Need-returns-2 Inv-loop μ-loop
 returns-2 c =
-    let a = c .before .before .before .before .before .before .before .before .args in
-    sym (c .before .before .before .before .before .before .loop .inv ∙ notes-step _ (a .guide .now) (c .before .before .before .before .before .before .loop .k) true (sym (c .before .before .before .before .is-segment .ensures) ∙ c .before .before .before .if1 .left) (sym (c .if2 .taken) ∙ c .before .breaks-note .ensures))
-
-add-k : tie.Need-add-k Inv-loop μ-loop
-add-k c = search needs
-
-loop-less : tie.Need-loop-less Inv-loop μ-loop
-loop-less c = search needs
+    let note = c .before .before in
+    let loop = note .before .before .before in
+    sym (loop .loop .inv
+    ∙ notes-step _ (loop .before .before .args .guide .now) (loop .loop .k) true
+    (sym (note .before .is-segment .ensures) ∙ note .if1 .left)
+    (sym (c .if2 .taken) ∙ c .before .breaks-note .ensures))
 
 loop-again : tie.Need-loop-again Inv-loop μ-loop
 loop-again c =
-    let a = c .before .before .before .before .before .before .before .before .args in
-    c .before .before .before .before .before .before .loop .inv ∙ notes-step _ (a .guide .now) (c .before .before .before .before .before .before .loop .k) false (sym (c .before .before .before .before .is-segment .ensures) ∙ c .before .before .before .if1 .left) (sym (c .if2 .left) ∙ c .before .breaks-note .ensures)
+    let note = c .before .before in
+    let loop = note .before .before .before in
+    loop .loop .inv
+    ∙ notes-step _ (loop .before .before .args .guide .now) (loop .loop .k) false
+    (sym (note .before .is-segment .ensures) ∙ note .if1 .left)
+    (sym (c .if2 .left) ∙ c .before .breaks-note .ensures)
 
 returns-3 : tie.Need-returns-3 Inv-loop μ-loop
 returns-3 c = sym (c .before .loop .inv ∙ notes-past _ _ _ (c .loop-test .left))
@@ -63,14 +50,12 @@ breaks-notes-spec =
     (tie.spec
     Inv-loop
     μ-loop
-    loop-holds
-    is-segment-requires
+    (λ c. search needs)
+    (λ c κs. search needs)
     returns
-    mul-breaks-note
-    shared-slice-copy-out-breaks-note
-    breaks-note-requires
+    (λ c κs. search needs)
     returns-2
-    add-k
-    loop-less
+    (λ c. search needs)
+    (λ c. search needs)
     loop-again
     returns-3)

@@ -13,7 +13,7 @@ use Rattle.tables.specs.Rows.{syntaxIn, rowsIn}
 use Rattle.text.proofs.Search.{find-le}
 use Rattle.segments.proofs.Fields.{FieldAt, field-first, field-next}
 use Rattle.tables.specs.Reading.{entryAt, rowAt}
-use Rattle.tables.proofs.Laws.{rows-stop, rows-end}
+use Rattle.tables.proofs.Laws.{below-rest, rows-stop, rows-end}
 use Rattle.elements.specs.Notes.{breaks}
 use Rattle.elements.specs.Places.{endsField}
 use Rattle.elements.proofs.Codes.{takes-valid, takes-spoiled}
@@ -76,7 +76,7 @@ notes-said : (c : tie.After-breaks-any Inv-loop μ-loop)
 notes-said c =
     let a = c .before .before .before .before .before .before .before .before .before .before .before .before .before .before .before .before .before .before .args in
     c .breaks-any .ensures
-    ∙ ap (any (breaks (split (a .d .element) (a .s .now)) (c .before .before .before .before .before .before .before .before .before .before .before .before .before .loop .n))) (c .before .before .before .before .before .before .before .before .before .before .before .before .before .before .before .first-note .ensures ∙ ap syntaxIn (c .before .before .before .before .before .before .before .before .before .before .before .before .before .before .before .before .below .ensures))
+    ∙ ap (any (breaks (split (a .d .element) (a .s .now)) (c .before .before .before .before .before .before .before .before .before .before .before .before .before .loop .n))) (c .before .before .before .before .before .before .before .before .before .before .before .before .before .before .before .first-note .ensures ∙ ap syntaxIn (below-rest (a .guide .now) (a .entry) (c .before .before .before .before .before .before .before .before .before .before .before .before .before .before .before .before .below .ensures)))
 
 below-requires : tie.Need-below-requires Inv-loop μ-loop
 below-requires c κs = search needs
@@ -92,7 +92,7 @@ unfolding findings
 loop-holds c =
     let a = c .before .before .before .before .args in
     let s = split (a .d .element) (a .s .now) in
-    (field-next field-first (c .find-near .ensures), omega (arith, c .find-near .ensures, find-le (a .d .element) (a .s .now) 0 (omega arith)), omega arith, ap (λ (l : List (List ℕ)). null (findingsFrom (a .d) (entryAt (a .guide .now) (a .entry) .notes) s 1 (rowsIn l))) (sym (c .before .before .below .ensures)))
+    (field-next field-first (c .find-near .ensures), omega (arith, c .find-near .ensures, find-le (a .d .element) (a .s .now) 0 (omega arith)), omega arith, ap (λ (l : List (List ℕ)). null (findingsFrom (a .d) (entryAt (a .guide .now) (a .entry) .notes) s 1 (rowsIn l))) (sym (below-rest (a .guide .now) (a .entry) (c .before .before .below .ensures))))
 
 is-segment-requires : tie.Need-is-segment-requires Inv-loop μ-loop
 is-segment-requires c κs = search needs

@@ -5,27 +5,12 @@ use borrow.Author.Needs.{needs}
 use Rattle.elements.proofs.is_unlisted.Statement.{statement}
 use Rattle.elements.proofs.is_unlisted.Tie as tie
 
-below-requires : tie.Need-below-requires
-below-requires c κs = search needs
-
-has-values-requires : tie.Need-has-values-requires
-has-values-requires c κs = search needs
-
 returns : tie.Need-returns
-returns c = rw (← c .before .before .below .ensures, sym (c .before .has-values .ensures) ∙ not-true _ (c .if1 .taken))
-
-is-listed-requires : tie.Need-is-listed-requires
-is-listed-requires c κs = search needs
+returns c = rw (sym (c .before .has-values .ensures) ∙ not-true _ (c .if1 .taken))
 
 returns-2 : tie.Need-returns-2
-returns-2 c = rw (← c .before .before .before .below .ensures, sym (c .before .before .has-values .ensures) ∙ not-false _ (c .before .if1 .left), ← c .is-listed .ensures)
+returns-2 c = rw (sym (c .before .before .has-values .ensures) ∙ not-false _ (c .before .if1 .left), ← c .is-listed .ensures)
 
 pub is-unlisted-spec : {M : Type 1} → statement M
 is-unlisted-spec =
-    tie.close
-    (tie.spec
-    below-requires
-    has-values-requires
-    returns
-    is-listed-requires
-    returns-2)
+    tie.close (tie.spec (λ c κs. search needs) returns (λ c κs. search needs) returns-2)

@@ -12,6 +12,7 @@ use Rattle.rules.specs.Elements.{elementCode, present}
 use Rattle.tables.specs.Rows.{syntaxIn}
 use Rattle.segments.proofs.Fields.{present-length}
 use Rattle.tables.specs.Reading.{entryAt, rowAt}
+use Rattle.tables.proofs.Laws.{below-rest}
 use Rattle.elements.specs.Notes.{breaks}
 use Rattle.elements.specs.Places.{nextCode}
 use Rattle.elements.proofs.Places.{next-code}
@@ -38,7 +39,7 @@ coded c =
     next-code (entryAt (a .guide .now) (a .entry) .notes) s (a .n) (a .d) (rowAt (a .guide .now) (a .k))
     _ (c .element-code .ensures ∙ ap (elementCode (a .d) (rowAt (a .guide .now) (a .k))) (c .before .before .before .field .ensures))
     _ (is-there (c .before .before .before))
-    _ (c .before .breaks-notes .ensures ∙ ap (λ (l : List (List ℕ)). any (breaks s (a .n)) (syntaxIn l)) (c .before .before .below .ensures))
+    _ (c .before .breaks-notes .ensures ∙ ap (λ (l : List (List ℕ)). any (breaks s (a .n)) (syntaxIn l)) (below-rest (a .guide .now) (a .entry) (c .before .before .below .ensures)))
     (a .told)
 
 field-requires : tie.Need-field-requires

@@ -5,21 +5,8 @@ use borrow.Author.Needs.{needs}
 use Rattle.elements.proofs.place_at.Statement.{statement}
 use Rattle.elements.proofs.place_at.Tie as tie
 
-mul-wide : tie.Need-mul-wide
-mul-wide c = search needs
-
-shared-slice-read-wide : tie.Need-shared-slice-read-wide
-shared-slice-read-wide c = search needs
-
-wide-requires : tie.Need-wide-requires
-wide-requires c κs = search needs
-
-returns : tie.Need-returns
-returns c = search needs
-
 returns-2 : tie.Need-returns-2
-returns-2 c = sym (List·getD-eq-default (c .before .before .args .places .now) 0 (c .if1 .left))
+returns-2 c = sym (List·getD-eq-default (c .before .args .places .now) 0 (c .if1 .left))
 
 pub place-at-spec : {M : Type 1} → statement M
-place-at-spec =
-    tie.close (tie.spec mul-wide shared-slice-read-wide wide-requires returns returns-2)
+place-at-spec = tie.close (tie.spec (λ c. search needs) (λ c. search needs) (λ c. search needs) returns-2)

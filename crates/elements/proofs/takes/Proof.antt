@@ -27,7 +27,7 @@ returns-2 : tie.Need-returns-2
 returns-2 c =
     let a = c .before .before .before .before .args in
     let r = rowAt (a .guide .now) (a .k) in
-    let plain = takes-length (a .guide .now) (a .k) (a .e .now) (sym (c .before .takes-length .ensures) ∙ c .if2 .taken) in
+    let plain = takes-length r (a .e .now) (sym (c .before .takes-length .ensures) ∙ c .if2 .taken) in
     c .if2 .taken ∙ sym (takes-filled r (a .e .now) (c .before .before .if1 .left) ∙ rw plain)
 
 returns-3 : tie.Need-returns-3

@@ -21,15 +21,15 @@ returns : tie.Need-returns
 unfolding steps.elementStep
 returns c = rw (← c .before .before .before .before .before .part .ensures, ← c .before .before .before .before .next-code .ensures, eq-eqb _ _ (c .if1 .taken), c .before .before .to .ensures, c .before .before .before .next-place .ensures)
 
-number-requires : tie.Need-number-requires
-number-requires c κs = search needs
+element-at-requires : tie.Need-element-at-requires
+element-at-requires c κs = search needs
 
 new-requires : tie.Need-new-requires
 new-requires c κs = search needs
 
 returns-2 : tie.Need-returns-2
 unfolding steps.elementStep
-returns-2 c = rw (← c .before .before .before .before .before .before .before .part .ensures, ← c .before .before .before .before .before .before .next-code .ensures, ne-eqb _ _ (c .before .before .if1 .left), c .new .ensures, c .before .number .ensures, c .before .before .before .before .to .ensures, c .before .before .before .before .before .next-place .ensures)
+returns-2 c = rw (← c .before .before .before .before .before .before .before .part .ensures, ← c .before .before .before .before .before .before .next-code .ensures, ne-eqb _ _ (c .before .before .if1 .left), c .new .ensures, c .before .element-at .ensures, c .before .before .before .before .to .ensures, c .before .before .before .before .before .next-place .ensures)
 
 pub element-spec : {M : Type 1} → statement M
 element-spec =
@@ -40,6 +40,6 @@ element-spec =
     next-place-requires
     to-requires
     returns
-    number-requires
+    element-at-requires
     new-requires
     returns-2)

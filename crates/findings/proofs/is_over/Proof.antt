@@ -6,14 +6,8 @@ use borrow.Author.Needs.{needs}
 use Rattle.findings.proofs.is_over.Statement.{statement}
 use Rattle.findings.proofs.is_over.Tie as tie
 
-number-requires : tie.Need-number-requires
-number-requires c κs = search needs
-
-cast-result : tie.Need-cast-result
-cast-result c = search needs
-
 returns : tie.Need-returns
-returns c = ap (λ (n : ℕ). ltb n (c .before .args .used)) (c .number .ensures)
+returns c = ap (λ (n : ℕ). ltb n (c .before .args .used)) (c .most-uses .ensures)
 
 pub is-over-spec : {M : Type 1} → statement M
-is-over-spec = tie.close (tie.spec number-requires cast-result returns)
+is-over-spec = tie.close (tie.spec (λ c κs. search needs) returns)

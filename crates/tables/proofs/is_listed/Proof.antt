@@ -1,69 +1,18 @@
 -- `tables::is_listed` meets its contract.
-use Prim.Native.Nat.{_-_, _<_}
-use mathlib.Core.Path.{_≡_, sym, _∙_}
-use mathlib.Core.Bool.{true, false}
-use lib.Dec.{lit<}
-use lib.ListN.{length}
+use mathlib.Core.Path.{ap, _∙_}
 use Rattle.rules.specs.Base.{member}
-use Rattle.tables.specs.Reading.{codesAt}
-use Rattle.tables.proofs.Laws.{row-within, listed-step, listed-end}
+use Rattle.tables.specs.Reading.{Guide}
+use Rattle.tables.specs.Rows.{codesIn}
+use Rattle.tables.proofs.Laws.{below-rest}
 use borrow.Author.Needs.{needs}
 use Rattle.tables.proofs.is_listed.Statement.{statement}
 use Rattle.tables.proofs.is_listed.Tie as tie
 
-abbrev Inv-loop : tie.InvT-loop
-Inv-loop guide k value i₀ i = member value (codesAt guide k) ≡ member value (codesAt guide i)
-
-abbrev μ-loop : tie.MeasureT-loop
-μ-loop guide k value i₀ i = length guide - i
-
--- a value's row stands before the end
-within : (c : tie.Then1 Inv-loop μ-loop) → c .before .before .loop .i < length (c .before .before .before .before .args .guide .now)
-within c = row-within 3 (lit< tt) (c .before .before .before .before .args .guide .now) (c .before .before .loop .i) (sym (c .before .is-value .ensures) ∙ c .if1 .taken)
-
-loop-holds : tie.Need-loop-holds Inv-loop μ-loop
-loop-holds c = search needs
-
-is-value-requires : tie.Need-is-value-requires Inv-loop μ-loop
-is-value-requires c κs = search needs
-
-mul-is-code : tie.Need-mul-is-code Inv-loop μ-loop
-mul-is-code c = let h = within c in search needs
-
-shared-slice-copy-out-is-code : tie.Need-shared-slice-copy-out-is-code Inv-loop μ-loop
-shared-slice-copy-out-is-code c = within c
-
-is-code-requires : tie.Need-is-code-requires Inv-loop μ-loop
-is-code-requires c κs = search needs
-
-returns : tie.Need-returns Inv-loop μ-loop
-returns c = sym (c .before .before .before .before .before .loop .inv ∙ listed-step (c .before .before .before .before .before .before .before .args .guide .now) (c .before .before .before .before .before .loop .i) _ true (sym (c .before .before .before .before .is-value .ensures) ∙ c .before .before .before .if1 .taken) (sym (c .before .is-code .ensures) ∙ c .if2 .taken))
-
-add-i : tie.Need-add-i Inv-loop μ-loop
-add-i c = let h = within (c .before .before .before) in search needs
-
-loop-less : tie.Need-loop-less Inv-loop μ-loop
-loop-less c = let h = within (c .before .before .before) in search needs
-
-loop-again : tie.Need-loop-again Inv-loop μ-loop
-loop-again c = c .before .before .before .before .before .loop .inv ∙ listed-step (c .before .before .before .before .before .before .before .args .guide .now) (c .before .before .before .before .before .loop .i) _ false (sym (c .before .before .before .before .is-value .ensures) ∙ c .before .before .before .if1 .taken) (sym (c .before .is-code .ensures) ∙ c .if2 .left)
-
-returns-2 : tie.Need-returns-2 Inv-loop μ-loop
-returns-2 c = sym (c .before .before .loop .inv ∙ listed-end (c .before .before .before .before .args .guide .now) (c .before .before .loop .i) _ (sym (c .before .is-value .ensures) ∙ c .if1 .left))
+returns : tie.Need-returns
+returns c =
+    let a = c .before .before .before .args in
+    c .is-listed-from .ensures
+    ∙ ap (λ (l : Guide). member (a .value .now) (codesIn l)) (below-rest (a .guide .now) (a .k) (c .before .below .ensures))
 
 pub is-listed-spec : {M : Type 1} → statement M
-is-listed-spec =
-    tie.close
-    (tie.spec
-    Inv-loop
-    μ-loop
-    loop-holds
-    is-value-requires
-    mul-is-code
-    shared-slice-copy-out-is-code
-    is-code-requires
-    returns
-    add-i
-    loop-less
-    loop-again
-    returns-2)
+is-listed-spec = tie.close (tie.spec (λ c κs. search needs) (λ c κs. search needs) returns)

@@ -1,8 +1,8 @@
--- `elements::size` meets its contract.
+-- `elements::value_length` meets its contract.
 use mathlib.Core.Path.{sym, _∙_}
 use borrow.Author.Needs.{needs}
-use Rattle.elements.proofs.size.Statement.{statement}
-use Rattle.elements.proofs.size.Tie as tie
+use Rattle.elements.proofs.value_length.Statement.{statement}
+use Rattle.elements.proofs.value_length.Tie as tie
 
 is-number-requires : tie.Need-is-number-requires
 is-number-requires c κs = search needs
@@ -16,5 +16,5 @@ returns c = rw (sym (c .before .before .is-number .ensures) ∙ c .before .if1 .
 returns-2 : tie.Need-returns-2
 returns-2 c = rw (sym (c .before .is-number .ensures) ∙ c .if1 .left)
 
-pub size-spec : {M : Type 1} → statement M
-size-spec = tie.close (tie.spec is-number-requires unsigned-requires returns returns-2)
+pub value-length-spec : {M : Type 1} → statement M
+value-length-spec = tie.close (tie.spec is-number-requires unsigned-requires returns returns-2)
