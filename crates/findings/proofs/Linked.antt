@@ -22,7 +22,7 @@ use Rattle.rules.specs.declared.Finding.{Finding}
 use Rattle.rules.proofs.Logic.{all-head, all-tail}
 use Rattle.text.proofs.Loops.{all-drop}
 use Rattle.text.specs.Text.{indexWhere}
-use Rattle.tables.specs.Reading.{Guide, Limits, isByte, entryAt, reachFrom, idIn, isEntryRow, idAt, idBytes, idsAreBytes}
+use Rattle.tables.specs.Reading.{Guide, Limits, isByte, entryAt, entryRow, idIn, isEntryRow, idAt, idBytes, idsAreBytes}
 use Rattle.tables.proofs.Laws as reading
 use Rattle.elements.specs.Places.{noteCode}
 use Rattle.elements.proofs.Places.{place-codes}
@@ -297,7 +297,7 @@ module _ (rows : Guide) (p : Present) where
 
 module _ (ids : List (List ℕ)) (rows : Guide) (p : Present) (h : isRow 1 (getD rows (p .row) []) ≡ true) (id : Bytes) where
   abbrev k : ℕ
-  k = reachFrom rows 0 id
+  k = entryRow rows id
 
   abbrev Compares : Standing → Type 0
   Compares st = (law.compared (indexAt (p .row) rows) (some (indexAt k rows)) ≡ means rows p st) × Apt rows p st
@@ -325,7 +325,7 @@ module _ (ids : List (List ℕ)) (rows : Guide) (p : Present) (h : isRow 1 (getD
   Stands st = (standing (tableOf ids rows) (presentAt rows p) id ≡ means rows p st) × Apt rows p st
 
   stands-law : Stands (stands ids rows (p .row) id)
-  unfolding stands standing tableOf reachFrom
+  unfolding stands standing tableOf entryRow
   stands-law = go (member id (idsIn ids)) refl (ltb k (length rows)) refl
     where
       at : k ≡ indexWhere (isEntryRow id) rows

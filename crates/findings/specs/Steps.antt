@@ -11,7 +11,7 @@ use Rattle.rules.specs.Elements.{findings}
 use Rattle.rules.specs.declared.Delimiters.{Delimiters}
 use Rattle.rules.specs.declared.Finding.{Finding}
 use Rattle.text.specs.Text.{indexOf, nextWhere}
-use Rattle.tables.specs.Reading.{Guide, entryAt, rowAt, reachFrom, nextMandatory, idAt}
+use Rattle.tables.specs.Reading.{Guide, entryAt, rowAt, entryRow, nextMandatory, idAt}
 use Rattle.tables.specs.declared.SegmentId.{SegmentId}
 use Rattle.elements.specs.Places.{nextCode}
 use Rattle.findings.specs.declared.Phase.{Phase}
@@ -57,7 +57,7 @@ compared present k = if ltb k present then Before k else (if ltb present k then 
 -- how an id stands to the entry in the present row
 unfoldable pub stands : List (List ℕ) → Guide → ℕ → Bytes → Standing
 stands ids rows present id =
-    let k = reachFrom rows 0 id in
+    let k = entryRow rows id in
     if member id (idsIn ids) then (if ltb k (length rows) then compared present k else Unlisted) else Unknown
 
 -- what a standing comes to: the code, the row of the entry by which the elements are checked, the present entry after it, and the row from

@@ -187,7 +187,7 @@ fn stands(id: &[u8], directory: &[[u8; 3]], guide: &[[u16; 6]], present: usize) 
     if !tables::is_known(id, directory) {
         return Standing::Unknown;
     }
-    let row = tables::reach(guide, 0, id);
+    let row = tables::reach(guide, id);
     if guide.len() <= row {
         return Standing::Unlisted;
     }

@@ -63,8 +63,6 @@ use Rattle.tables.proofs.is_element.Reads as tables-is-element
 use Rattle.tables.proofs.is_note.Reads as tables-is-note
 use Rattle.tables.proofs.kind_of.Reads as tables-kind-of
 use Rattle.tables.proofs.relation_of.Reads as tables-relation-of
-use Rattle.tables.proofs.is_entry.Reads as tables-is-entry
-use Rattle.tables.proofs.next_in_order.Reads as tables-next-in-order
 use Rattle.tables.proofs.reach.Reads as tables-reach
 use Rattle.tables.proofs.next_mandatory.Reads as tables-next-mandatory
 use Rattle.tables.proofs.has_values.Reads as tables-has-values
@@ -300,12 +298,6 @@ tables-kind-of-once κs a r₁ r₂ s₁ s₂ p q = p ∙ sym q
 
 tables-relation-of-once : Once tables-relation-of.Post (λ κs r s. r)
 tables-relation-of-once κs a r₁ r₂ s₁ s₂ p q = p ∙ sym q
-
-tables-is-entry-once : Once tables-is-entry.Post (λ κs r s. r)
-tables-is-entry-once κs a r₁ r₂ s₁ s₂ p q = p ∙ sym q
-
-tables-next-in-order-once : Once tables-next-in-order.Post (λ κs r s. r)
-tables-next-in-order-once κs a r₁ r₂ s₁ s₂ p q = p ∙ sym q
 
 tables-reach-once : Once tables-reach.Post (λ κs r s. r)
 tables-reach-once κs a r₁ r₂ s₁ s₂ p q = p ∙ sym q
