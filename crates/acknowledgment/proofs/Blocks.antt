@@ -144,7 +144,7 @@ module _ {d : Delimiters} {s : Set} {closed : Bool} {n : ℕ} {bs st se : Bytes}
   -- the events of a walk through the set are its notes
   events-are : events (left bs d directoryRows rows closed start) ≡ flat (notes true)
   events-are =
-      rw (walk-notes bs d directoryRows rows closed limits (parts .short), parts .whole, ← parts .trailer, ← closed-if closed (split (d .element) se), Bool·not-not closed)
+      rw (walk-notes bs d directoryRows rows closed limits (parts .short) (sym (parts .whole)), ← parts .trailer, ← closed-if closed (split (d .element) se), Bool·not-not closed)
 
   -- what the walk says is its notes
   notes-are : (supported : Bool) → (if supported then map written (events (left bs d directoryRows rows closed start)) else []) ≡ ak3s (notes supported)

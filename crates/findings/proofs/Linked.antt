@@ -1,33 +1,36 @@
 -- What a walk from the start has to tell is the notes of document 01.
 use mathlib.Core.Path.{_≡_, refl, sym, ap, _∙_}
-use mathlib.Core.Bool.{Bool, true, false, _&&_, _||_, not, true≢false}
+use mathlib.Core.Bool.{Bool, true, false, _&&_, _||_, not}
 use mathlib.Core.List.{List, [], _∷_, _++_, map, map-append, append-nil, append-assoc}
+use mathlib.Core.Option.{none, some}
 use Prim.Native.Nat.{ℕ, zero, suc, _+_, _-_, _<_, _≤_}
-use native.Mathlib.Nat.{le-of-suc-le-suc, not-suc-le-zero}
+use native.Mathlib.Nat.{le-of-suc-le-suc, not-suc-le-zero, add-zero, zero-add}
+use native.Mathlib.Numerals.{add-one}
 use native.Mathlib.Omega.{arith}
-use borrow.Author.Tests.{lt-ltb, ltb-true, ltb-false}
+use borrow.Author.Tests.{lt-ltb, le-ltb, ltb-true, ltb-false, eq-eqb, ne-eqb}
 use lib.Dec.{ltb, eqb}
 use lib.ListN.{length, take, drop, getD, length-drop, length-map}
-use lib.Seq.{slice, slice-empty, take-nil, drop-drop, getD-drop}
+use lib.Seq.{slice, slice-empty, take-nil, drop-cons, getD-drop}
 use Rattle.rules.specs.Base.{Bytes, ascii, null, all, same, member, keep, every, _⇒_, if_then_else_}
 use Rattle.rules.specs.Cutting.{Segment, field, cutAt, pieces, segments}
-use Rattle.rules.specs.Tables.{Syntax, Entry, Row}
+use Rattle.rules.specs.Tables.{Syntax, Entry, Row, Table}
 use Rattle.tables.specs.Rows.{column, isRow, filled, rowIs, codesIn, rowsIn, entryIs, entriesIn, idsIn, tableOf}
 use Rattle.rules.specs.Elements.{elementCode, placeCodes, found, findingsFrom, findings}
-use Rattle.rules.specs.Segments.{Note, echoed, noted, over, reach, missing, segmentNote, walk, notesOf, standing, against, ownCode, moved, checkedBy, findingsBy, skipped}
+use Rattle.rules.specs.Segments.{Note, indexFrom, standing, findingsBy, missing, echoed, noted, segmentNote, walk, notesOf}
 use Rattle.rules.specs.Segments as law
 use Rattle.rules.specs.declared.Delimiters.{Delimiters}
 use Rattle.rules.specs.declared.Finding.{Finding}
 use Rattle.rules.proofs.Logic.{all-head, all-tail}
 use Rattle.text.proofs.Loops.{all-drop}
 use Rattle.text.specs.Text.{indexWhere}
-use Rattle.tables.specs.Reading.{Guide, Limits, isByte, entryAt, reachFrom, idIn, isEntryRow, idAt, idBytes, idsAreBytes}
+use Rattle.tables.specs.Reading.{Guide, Limits, isByte, entryAt, entryRow, idIn, isEntryRow, idAt, idBytes, idsAreBytes}
 use Rattle.tables.proofs.Laws as reading
 use Rattle.elements.specs.Places.{noteCode}
 use Rattle.elements.proofs.Places.{place-codes}
 use Rattle.findings.specs.Events.{Event, Line, Element, flat}
-use Rattle.findings.specs.Steps.{bumped, start, stands, ownOf, checkOf, entryOf, usedOf, passingOf, isChecked, codesOf}
-use Rattle.findings.specs.Left.{Slots, events, missingThen, foundSlot, surplusSlot, codesThen, placesThen, lined, segmentThen, walkSlots, left}
+use Rattle.findings.specs.Steps.{bumped, start, compared, stands, ownOf, checkOf, presentOf, passingOf, isChecked, codesOf}
+use Rattle.findings.specs.Left.{Slots, events, missingThen, foundSlot, surplusSlot, codesThen, placesThen, lined, segmentThen, trailerSlots, walkSlots, setSlots, left}
+use Rattle.findings.specs.declared.Present.{Present}
 use Rattle.findings.specs.declared.Standing.{Standing}
 use Rattle.findings.specs.declared.Standing.the-variants.{Unknown, Unlisted, Before, Again, Later}
 
@@ -64,61 +67,127 @@ slice-take (suc k) i zero xs h = absurd (omega arith)
 slice-take (suc k) i (suc e) [] h = sym (take-nil i)
 slice-take (suc k) i (suc e) (x ∷ xs) h = slice-take k i e xs (omega arith)
 
-module _ (id : Bytes) (n : ℕ) (rest : Slots) where
-  over-law : (xs : Guide) → all hasByteId xs ≡ true
-      → events (missingThen n (take (indexWhere (isEntryRow id) xs) xs) rest) ≡ flat (missing n (over id (entriesIn xs))) ++ events rest
-  unfolding events missingThen indexWhere flat missing keep over entriesIn
-  over-law [] h = refl
-  over-law (x ∷ xs) h = go (isRow 1 x) refl (same (filled (idIn x)) id) refl (eqb (column x 4) 1) refl (over-law xs (all-tail hasByteId x xs h))
+-- the index of the entry that row k is: the number of segments before it
+unfoldable indexAt : ℕ → Guide → ℕ
+indexAt zero xs = 0
+indexAt (suc k) [] = 0
+indexAt (suc k) (x ∷ xs) = let r = indexAt k xs in if isRow 1 x then suc r else r
+
+-- the entries from row k on are those from its index on
+entries-drop : (k : ℕ) (xs : Guide) → entriesIn (drop k xs) ≡ drop (indexAt k xs) (entriesIn xs)
+unfolding indexAt entriesIn
+entries-drop zero xs = refl
+entries-drop (suc k) [] = refl
+entries-drop (suc k) (x ∷ xs) = go (isRow 1 x) (entries-drop k xs)
+  where
+    go : (b : Bool) → entriesIn (drop k xs) ≡ drop (indexAt k xs) (entriesIn xs)
+        → entriesIn (drop k xs)
+        ≡ drop (if b then suc (indexAt k xs) else indexAt k xs) (if b then entryIs x xs ∷ entriesIn xs else entriesIn xs)
+    go true ih = ih
+    go false ih = ih
+
+-- in two parts
+index-add : (k i e : ℕ) (xs : Guide) → e ≡ k + i → indexAt e xs ≡ indexAt k xs + indexAt i (drop k xs)
+unfolding indexAt
+index-add zero i e xs h = let q : e ≡ i = omega arith in rw q (omega arith)
+index-add (suc k) i zero xs h = absurd (omega arith)
+index-add (suc k) zero (suc e) [] h = refl
+index-add (suc k) (suc i) (suc e) [] h = refl
+index-add (suc k) i (suc e) (x ∷ xs) h = go (isRow 1 x) (index-add k i e xs (omega arith))
+  where
+    go : (b : Bool) → indexAt e xs ≡ indexAt k xs + indexAt i (drop k xs)
+        → (if b then suc (indexAt e xs) else indexAt e xs) ≡ (if b then suc (indexAt k xs) else indexAt k xs) + indexAt i (drop k xs)
+    go true ih = omega arith
+    go false ih = ih
+
+-- a segment's row is an entry, and counts
+module _ (rows : Guide) (k : ℕ) (e : isRow 1 (getD rows k []) ≡ true) where
+  row-in : k < length rows
+  row-in = reading.row-within 1 (omega arith) rows k e
+
+  here : drop k rows ≡ getD rows k [] ∷ drop (k + 1) rows
+  here = rw add-one (drop-cons rows k [] row-in)
+
+  entry-here : (ids : List (List ℕ)) → law.entryAt (tableOf ids rows) (indexAt k rows) ≡ entryAt rows k
+  unfolding tableOf entriesIn
+  entry-here ids =
+      let r = getD-drop (indexAt k rows) (entriesIn rows) 0 law.noEntry in
+      rw (add-zero, ← entries-drop k rows, here, e) at (sym r)
+
+  index-next : indexAt (k + 1) rows ≡ indexAt k rows + 1
+  unfolding indexAt
+  index-next = index-add k 1 (k + 1) rows refl ∙ rw (here, e)
+
+  index-less : (j : ℕ) → k < j → indexAt k rows < indexAt j rows
+  index-less j h =
+      let q = index-add (k + 1) (j - (k + 1)) j rows (omega arith) in
+      omega (arith, index-next)
+
+module _ (n : ℕ) (rest : Slots) where
+  missing-law : (i : ℕ) (xs : Guide) → all hasByteId xs ≡ true
+      → events (missingThen n (take i xs) rest) ≡ flat (missing n (take (indexAt i xs) (entriesIn xs))) ++ events rest
+  unfolding events missingThen indexAt flat missing keep entriesIn
+  missing-law zero xs h = refl
+  missing-law (suc i) [] h = refl
+  missing-law (suc i) (x ∷ xs) h =
+      go (isRow 1 x) refl (eqb (column x 4) 1) refl (missing-law i xs (all-tail hasByteId x xs h))
     where
-      go : (b : Bool) → isRow 1 x ≡ b → (c : Bool) → same (filled (idIn x)) id ≡ c → (m : Bool) → eqb (column x 4) 1 ≡ m
-          → events (missingThen n (take (indexWhere (isEntryRow id) xs) xs) rest) ≡ flat (missing n (over id (entriesIn xs))) ++ events rest
-          → events (missingThen n (take (indexWhere (isEntryRow id) (x ∷ xs)) (x ∷ xs)) rest)
-          ≡ flat (missing n (over id (entriesIn (x ∷ xs)))) ++ events rest
-      go false e c f m g ih = rw (e, e) ih
-      go true e true f m g ih = rw (e, f)
-      go true e false f true g ih =
-          rw (e, f, e, g, id-bytes x e (all-head hasByteId x xs h)) (ap (λ (l : List Event). Line (filled (idIn x)) n (3 ∷ []) ∷ l) ih)
-      go true e false f false g ih = rw (e, f, e, g) ih
+      go : (b : Bool) → isRow 1 x ≡ b → (m : Bool) → eqb (column x 4) 1 ≡ m
+          → events (missingThen n (take i xs) rest) ≡ flat (missing n (take (indexAt i xs) (entriesIn xs))) ++ events rest
+          → events (missingThen n (take (suc i) (x ∷ xs)) rest)
+          ≡ flat (missing n (take (indexAt (suc i) (x ∷ xs)) (entriesIn (x ∷ xs)))) ++ events rest
+      go false e m g ih = rw e ih
+      go true e true g ih =
+          rw (e, g, id-bytes x e (all-head hasByteId x xs h)) (ap (λ (l : List Event). Line (filled (idIn x)) n (3 ∷ []) ∷ l) ih)
+      go true e false g ih = rw (e, g) ih
 
--- the same from row k up to the next with this id
-passed-law : (rows : Guide) (k n : ℕ) (id : Bytes) (rest : Slots) → all hasByteId rows ≡ true
-    → events (missingThen n (slice k (reachFrom rows k id) rows) rest) ≡ flat (missing n (over id (entriesIn (drop k rows)))) ++ events rest
-unfolding reachFrom
-passed-law rows k n id rest h =
-    rw (slice-take k (indexWhere (isEntryRow id) (drop k rows)) _ rows refl) (over-law id n rest (drop k rows) (all-drop hasByteId k rows h))
+  -- from row k up to row e
+  passed-law : (rows : Guide) (k e : ℕ) → k ≤ e → all hasByteId rows ≡ true
+      → events (missingThen n (slice k e rows) rest) ≡ flat (missing n (slice (indexAt k rows) (indexAt e rows) (entriesIn rows))) ++ events rest
+  passed-law rows k e h b =
+      rw (
+        slice-take k (e - k) e rows (omega arith),
+        slice-take (indexAt k rows) (indexAt (e - k) (drop k rows)) (indexAt e rows) (entriesIn rows) (index-add k (e - k) e rows (omega arith)),
+        ← entries-drop k rows,
+      )
+      (missing-law (e - k) (drop k rows) (all-drop hasByteId k rows b))
 
--- 2. The entries from the one with an id on.
+-- 2. The entry with an id.
 module _ (id : Bytes) where
-  reach-none : (xs : Guide) → length xs ≤ indexWhere (isEntryRow id) xs → reach id (entriesIn xs) ≡ []
-  unfolding indexWhere reach entriesIn
-  reach-none [] h = refl
-  reach-none (x ∷ xs) h = go (isRow 1 x) (same (filled (idIn x)) id) refl h (reach-none xs)
+  index-none : (xs : Guide) (m : ℕ) → length xs ≤ indexWhere (isEntryRow id) xs → indexFrom m id (entriesIn xs) ≡ none
+  unfolding indexWhere indexFrom entriesIn
+  index-none [] m h = refl
+  index-none (x ∷ xs) m h = go (isRow 1 x) (same (filled (idIn x)) id) refl h (index-none xs)
     where
       go : (b c : Bool) → same (filled (idIn x)) id ≡ c → suc (length xs) ≤ (if b && c then 0 else suc (indexWhere (isEntryRow id) xs))
-          → (length xs ≤ indexWhere (isEntryRow id) xs → reach id (entriesIn xs) ≡ [])
-          → reach id (if b then entryIs x xs ∷ entriesIn xs else entriesIn xs) ≡ []
-      go false c f k ih = ih (le-of-suc-le-suc k)
+          → ((j : ℕ) → length xs ≤ indexWhere (isEntryRow id) xs → indexFrom j id (entriesIn xs) ≡ none)
+          → indexFrom m id (if b then entryIs x xs ∷ entriesIn xs else entriesIn xs) ≡ none
+      go false c f k ih = ih m (le-of-suc-le-suc k)
       go true true f k ih = absurd (not-suc-le-zero k)
-      go true false f k ih = rw f (ih (le-of-suc-le-suc k))
+      go true false f k ih = rw f (ih (m + 1) (le-of-suc-le-suc k))
 
-  reach-some : (xs : Guide) (i : ℕ) → i ≡ indexWhere (isEntryRow id) xs → i < length xs
-      → reach id (entriesIn xs) ≡ entryIs (getD xs i []) (drop (suc i) xs) ∷ entriesIn (drop (suc i) xs)
-  unfolding indexWhere reach entriesIn
-  reach-some [] i e h = absurd (not-suc-le-zero h)
-  reach-some (x ∷ xs) i e h = go (isRow 1 x) (same (filled (idIn x)) id) refl i e h (reach-some xs)
+  abbrev Found : Guide → ℕ → ℕ → Type 0
+  Found xs m i = (indexFrom m id (entriesIn xs) ≡ some (m + indexAt i xs)) × (isRow 1 (getD xs i []) ≡ true)
+
+  index-some : (xs : Guide) (m i : ℕ) → i ≡ indexWhere (isEntryRow id) xs → i < length xs → Found xs m i
+  unfolding indexWhere indexFrom entriesIn indexAt
+  index-some [] m i e h = absurd (not-suc-le-zero h)
+  index-some (x ∷ xs) m i e h = go (isRow 1 x) refl (same (filled (idIn x)) id) refl i e h (index-some xs)
     where
-      go : (b c : Bool) → same (filled (idIn x)) id ≡ c → (i : ℕ)
+      go : (b : Bool) → isRow 1 x ≡ b → (c : Bool) → same (filled (idIn x)) id ≡ c → (i : ℕ)
           → i ≡ (if b && c then 0 else suc (indexWhere (isEntryRow id) xs)) → i < suc (length xs)
-          → ((j : ℕ) → j ≡ indexWhere (isEntryRow id) xs → j < length xs
-          → reach id (entriesIn xs) ≡ entryIs (getD xs j []) (drop (suc j) xs) ∷ entriesIn (drop (suc j) xs))
-          → reach id (if b then entryIs x xs ∷ entriesIn xs else entriesIn xs) ≡ entryIs (getD (x ∷ xs) i []) (drop i xs) ∷ entriesIn (drop i xs)
-      go false c f zero q k ih = absurd (omega arith)
-      go false c f (suc i) q k ih = ih i (omega arith) (le-of-suc-le-suc k)
-      go true true f zero q k ih = rw f
-      go true true f (suc i) q k ih = absurd (omega arith)
-      go true false f zero q k ih = absurd (omega arith)
-      go true false f (suc i) q k ih = rw f (ih i (omega arith) (le-of-suc-le-suc k))
+          → ((n j : ℕ) → j ≡ indexWhere (isEntryRow id) xs → j < length xs → Found xs n j)
+          → (indexFrom m id (if b then entryIs x xs ∷ entriesIn xs else entriesIn xs) ≡ some (m + indexAt i (x ∷ xs)))
+          × (isRow 1 (getD (x ∷ xs) i []) ≡ true)
+      go false z c f zero q k ih = absurd (omega arith)
+      go false z c f (suc i) q k ih = rw z (ih m i (omega arith) (le-of-suc-le-suc k))
+      go true z true f zero q k ih = (rw (f, add-zero), z)
+      go true z true f (suc i) q k ih = absurd (omega arith)
+      go true z false f zero q k ih = absurd (omega arith)
+      go true z false f (suc i) q k ih =
+          let r = ih (m + 1) i (omega arith) (le-of-suc-le-suc k) in
+          let l : m + 1 + indexAt i xs ≡ m + suc (indexAt i xs) = omega arith in
+          (rw (f, z, ← l) (r .0), r .1)
 
 -- 3. The places of a segment.
 module _ (d : Delimiters) (notes : List Syntax) (s : Segment) (rest : Slots) where
@@ -207,124 +276,148 @@ module _ (d : Delimiters) (ids : List (List ℕ)) (rows : Guide) (closed : Bool)
       go false = note-law (echoed (field s 0)) n own (not (eqb own 0)) [] rest rest refl
 
 -- 5. How a segment stands.
--- the place that an entry's row is
-abbrev placeAt : Guide → ℕ → ℕ → law.Place
-placeAt rows entry used = record { ahead = entryAt rows entry ∷ entriesIn (drop (entry + 1) rows); used = used }
+-- the present entry in the terms of document 01
+abbrev presentAt : Guide → Present → law.Present
+presentAt rows p = record { index = indexAt (p .row) rows; used = p .used }
 
-module _ (rows : Guide) (entry : ℕ) (id : Bytes) where
-  -- a standing in the terms of document 01
+module _ (rows : Guide) (p : Present) where
   abbrev means : Standing → law.Standing
   means Unknown = law.unknown
   means Unlisted = law.unlisted
-  means (Before k) = law.before (entryAt rows k)
-  means Again = law.again (entryAt rows entry)
-  means (Later k) = law.later (over id (entriesIn (drop (entry + 1) rows))) (entryAt rows k) (entriesIn (drop (k + 1) rows))
+  means (Before k) = law.before (indexAt k rows)
+  means Again = law.again (indexAt (p .row) rows)
+  means (Later k) = law.later (indexAt k rows)
 
-  -- its row is one of the guide, and for a later one the next with its id
+  -- its row is a segment's
   abbrev Apt : Standing → Type 0
   Apt Unknown = Unit {0}
   Apt Unlisted = Unit {0}
-  Apt (Before k) = k < length rows
+  Apt (Before k) = isRow 1 (getD rows k []) ≡ true
   Apt Again = Unit {0}
-  Apt (Later k) = (k < length rows) × (k ≡ reachFrom rows (entry + 1) id)
+  Apt (Later k) = (isRow 1 (getD rows k []) ≡ true) × (p .row < k)
 
-reach-row : (rows : Guide) (from k : ℕ) (id : Bytes) → k ≡ reachFrom rows from id → k < length rows
-    → reach id (entriesIn (drop from rows)) ≡ entryAt rows k ∷ entriesIn (drop (k + 1) rows)
-unfolding reachFrom
-reach-row rows from k id e h =
-    let i = indexWhere (isEntryRow id) (drop from rows) in
-    let q : from + suc i ≡ k + 1 = omega arith in
-    let r = reach-some id (drop from rows) i refl (simp length-drop (omega arith)) in
-    rw (drop-drop, q, getD-drop, ← e) at r
+module _ (ids : List (List ℕ)) (rows : Guide) (p : Present) (h : isRow 1 (getD rows (p .row) []) ≡ true) (id : Bytes) where
+  abbrev k : ℕ
+  k = entryRow rows id
 
-reach-past : (rows : Guide) (from : ℕ) (id : Bytes) → length rows ≤ reachFrom rows from id → reach id (entriesIn (drop from rows)) ≡ []
-unfolding reachFrom
-reach-past rows from id h = reach-none id (drop from rows) (simp length-drop (omega arith))
+  abbrev Compares : Standing → Type 0
+  Compares st = (law.compared (indexAt (p .row) rows) (some (indexAt k rows)) ≡ means rows p st) × Apt rows p st
 
-module _ (ids : List (List ℕ)) (rows : Guide) (entry used : ℕ) (id : Bytes) (h : entry < length rows) (small : Small (length rows)) where
-  abbrev Stands : Standing → Type 0
-  Stands st = (standing (tableOf ids rows) (placeAt rows entry used) id ≡ means rows entry id st) × Apt rows entry id st
-
-  stands-law : Stands (stands ids rows entry id)
-  unfolding stands standing tableOf against
-  stands-law =
-      rw (bumped-low entry (omega arith))
-      (go (member id (idsIn ids)) refl (same (entryAt rows entry .id) id) refl (ltb ahead (length rows)) refl (ltb whole (length rows)) refl)
+  compared-law : isRow 1 (getD rows k []) ≡ true → Compares (compared (p .row) k)
+  compared-law f = go (ltb k (p .row)) refl (ltb (p .row) k) refl
     where
-      ahead : ℕ
-      ahead = reachFrom rows (entry + 1) id
+      i : ℕ
+      i = indexAt (p .row) rows
 
-      whole : ℕ
-      whole = reachFrom rows 0 id
+      j : ℕ
+      j = indexAt k rows
 
-      go : (m : Bool) → member id (idsIn ids) ≡ m → (z : Bool) → same (entryAt rows entry .id) id ≡ z
-          → (a : Bool) → ltb ahead (length rows) ≡ a → (y : Bool) → ltb whole (length rows) ≡ y
-          → Stands (if m then (if z then Again else (if a then Later ahead else (if y then Before whole else Unlisted))) else Unknown)
-      go false m z x a p y q = (rw m, tt)
-      go true m true z a p y q = (rw (m, z), tt)
-      go true m false z true p y q =
-          let l = ltb-true ahead (length rows) p in
-          (rw (m, z, reach-row rows (entry + 1) ahead id refl l), (l, refl))
-      go true m false z false p true q =
-          let l = ltb-true whole (length rows) q in
-          (rw (m, z, reach-past rows (entry + 1) id (ltb-false ahead (length rows) p), reach-row rows 0 whole id refl l), l)
-      go true m false z false p false q =
-          (rw (m, z, reach-past rows (entry + 1) id (ltb-false ahead (length rows) p), reach-past rows 0 id (ltb-false whole (length rows) q)), tt)
+      go : (a : Bool) → ltb k (p .row) ≡ a → (b : Bool) → ltb (p .row) k ≡ b → Compares (if a then Before k else (if b then Later k else Again))
+      go true x b y = (rw (lt-ltb j i (index-less rows k f (p .row) (ltb-true k (p .row) x))), f)
+      go false x true y =
+          let l = ltb-true (p .row) k y in
+          let less = index-less rows (p .row) h k l in
+          (rw (le-ltb j i (omega arith), ne-eqb j i (λ (q : j ≡ i). omega arith)), (f, l))
+      go false x false y =
+          let q : k ≡ p .row = omega (arith, ltb-false k (p .row) x, ltb-false (p .row) k y) in
+          (rw (q, le-ltb i i (omega arith), eq-eqb i i refl), tt)
+
+  abbrev Stands : Standing → Type 0
+  Stands st = (standing (tableOf ids rows) (presentAt rows p) id ≡ means rows p st) × Apt rows p st
+
+  stands-law : Stands (stands ids rows (p .row) id)
+  unfolding stands standing tableOf entryRow
+  stands-law = go (member id (idsIn ids)) refl (ltb k (length rows)) refl
+    where
+      at : k ≡ indexWhere (isEntryRow id) rows
+      at = omega arith
+
+      go : (m : Bool) → member id (idsIn ids) ≡ m → (b : Bool) → ltb k (length rows) ≡ b
+          → Stands (if m then (if b then compared (p .row) k else Unlisted) else Unknown)
+      go false m b q = (rw m, tt)
+      go true m true q =
+          let r = index-some id rows 0 k at (ltb-true k (length rows) q) in
+          let s = compared-law (r .1) in
+          (rw (m, r .0, zero-add) (s .0), s .1)
+      go true m false q = (rw (m, index-none id rows 0 (omega (arith, at, ltb-false k (length rows) q))), tt)
 
 -- 6. One segment of the walk.
 module _ (d : Delimiters) (ids : List (List ℕ)) (rows : Guide) (closed : Bool) (small : Small (length rows))
-    (bytes : all hasByteId rows ≡ true) (entry used : ℕ) (h : entry < length rows) (few : Fits used) where
-  moved-law : (id : Bytes) (st : Standing)
-      → moved (means rows entry id st) (placeAt rows entry used) ≡ placeAt rows (entryOf st entry) (usedOf st used)
-  moved-law id Unknown = refl
-  moved-law id Unlisted = refl
-  moved-law id (Before k) = refl
-  moved-law id Again = rw (bumped-low used few)
-  moved-law id (Later k) = refl
+    (bytes : all hasByteId rows ≡ true) (p : Present) (h : isRow 1 (getD rows (p .row) []) ≡ true) (few : Fits (p .used)) where
+  moved-law : (st : Standing) → law.moved (presentAt rows p) (means rows p st) ≡ presentAt rows (presentOf st p)
+  moved-law Unknown = refl
+  moved-law Unlisted = refl
+  moved-law (Before k) = refl
+  moved-law Again = rw (bumped-low (p .used) few)
+  moved-law (Later k) = refl
 
-  module _ (n : ℕ) (s : Segment) (rest : Slots) where
-    abbrev told : ℕ → ℕ → Slots
-    told own check = segmentThen d ids rows closed own check n s rest
+  -- the row of the present entry is a segment's after it too
+  entry-stays : (st : Standing) → Apt rows p st → isRow 1 (getD rows (presentOf st p .row) []) ≡ true
+  entry-stays Unknown a = h
+  entry-stays Unlisted a = h
+  entry-stays (Before k) a = h
+  entry-stays Again a = h
+  entry-stays (Later k) a = a .0
 
-    abbrev noteBy : law.Standing → List Note
-    noteBy st = segmentNote n (ownCode st used) (field s 0) (findingsBy d (checkedBy st) s)
+  module _ (n : ℕ) where
+    abbrev skippedBy : Standing → List Entry
+    skippedBy st = law.skipped (tableOf ids rows) (presentAt rows p) (means rows p st)
 
-    own-law : (st : Standing) → Apt rows entry (field s 0) st
-        → events (told (ownOf rows st entry used) (checkOf st entry)) ≡ flat (noteBy (means rows entry (field s 0) st)) ++ events rest
-    own-law Unknown a = segment-law d ids rows closed small 1 entry n s rest h
-    own-law Unlisted a = segment-law d ids rows closed small 6 entry n s rest h
-    own-law (Before k) a = segment-law d ids rows closed small 7 k n s rest a
-    own-law Again a = rw (bumped-low used few) (go (ltb (column (getD rows entry []) 5) (used + 1)))
-      where
-        go : (b : Bool) → events (told (if b then 5 else 0) entry)
-            ≡ flat (segmentNote n (if b then 5 else 0) (field s 0) (findings d (entryAt rows entry) s)) ++ events rest
-        go true = segment-law d ids rows closed small 5 entry n s rest h
-        go false = segment-law d ids rows closed small 0 entry n s rest h
-    own-law (Later k) a = segment-law d ids rows closed small 0 k n s rest (a .0)
+    later-law : (k : ℕ) → Apt rows p (Later k) → (l : Slots)
+        → events (missingThen n (slice (bumped (p .row)) k rows) l) ≡ flat (missing n (skippedBy (Later k))) ++ events l
+    unfolding tableOf
+    later-law k a l =
+        let in-rows = row-in rows (p .row) h in
+        rw (bumped-low (p .row) (omega arith), ← index-next rows (p .row) h) (passed-law n l rows (p .row + 1) k (omega arith) bytes)
 
-    skip-law : (st : Standing) → Apt rows entry (field s 0) st → (l : Slots)
-        → events (missingThen n (slice (passingOf st entry) (entryOf st entry) rows) l)
-        ≡ flat (missing n (skipped (means rows entry (field s 0) st))) ++ events l
+    skip-law : (st : Standing) → Apt rows p st → (l : Slots)
+        → events (missingThen n (slice (passingOf st p) (presentOf st p .row) rows) l) ≡ flat (missing n (skippedBy st)) ++ events l
     unfolding missingThen missing keep flat
-    skip-law Unknown a l = rw (slice-empty entry rows)
-    skip-law Unlisted a l = rw (slice-empty entry rows)
-    skip-law (Before k) a l = rw (slice-empty entry rows)
-    skip-law Again a l = rw (slice-empty entry rows)
-    skip-law (Later k) a l = rw (bumped-low entry (omega arith), a .1) (passed-law rows (entry + 1) n (field s 0) l bytes)
+    skip-law Unknown a l = rw (slice-empty (p .row) rows)
+    skip-law Unlisted a l = rw (slice-empty (p .row) rows)
+    skip-law (Before k) a l = rw (slice-empty (p .row) rows)
+    skip-law Again a l = rw (slice-empty (p .row) rows)
+    skip-law (Later k) a l = later-law k a l
 
-entry-in : (rows : Guide) (entry : ℕ) (id : Bytes) → entry < length rows → (st : Standing) → Apt rows entry id st → entryOf st entry < length rows
-entry-in rows entry id h Unknown a = h
-entry-in rows entry id h Unlisted a = h
-entry-in rows entry id h (Before k) a = h
-entry-in rows entry id h Again a = h
-entry-in rows entry id h (Later k) a = a .0
+    -- after the last segment
+    trailer-law : (st : Standing) → Apt rows p st → events (trailerSlots d ids rows closed p n st) ≡ flat (missing n (skippedBy st))
+    unfolding events missing keep flat
+    trailer-law Unknown a = refl
+    trailer-law Unlisted a = refl
+    trailer-law (Before k) a = refl
+    trailer-law Again a = refl
+    trailer-law (Later k) a = later-law k a [] ∙ append-nil _
 
-used-low : (used n : ℕ) (st : Standing) → Fits (used + suc n) → Fits (usedOf st used + n)
-used-low used n Unknown h = omega arith
-used-low used n Unlisted h = omega arith
-used-low used n (Before k) h = omega arith
-used-low used n Again h = rw (bumped-low used (omega arith)) (omega arith)
-used-low used n (Later k) h = omega arith
+    module _ (s : Segment) (rest : Slots) where
+      abbrev told : ℕ → ℕ → Slots
+      told own check = segmentThen d ids rows closed own check n s rest
+
+      abbrev notedBy : ℕ → List Finding → List Event
+      notedBy own fs = flat (segmentNote n own (field s 0) fs) ++ events rest
+
+      checked : (own k : ℕ) → isChecked own ≡ true → isRow 1 (getD rows k []) ≡ true
+          → events (told own k) ≡ notedBy own (findings d (law.entryAt (tableOf ids rows) (indexAt k rows)) s)
+      checked own k c f = rw (entry-here rows k f ids) (rw c at (segment-law d ids rows closed small own k n s rest (row-in rows k f)))
+
+      own-law : (st : Standing) → Apt rows p st
+          → events (told (ownOf rows st p) (checkOf st p))
+          ≡ notedBy (law.ownCode (tableOf ids rows) (presentAt rows p) (means rows p st)) (findingsBy d (tableOf ids rows) (means rows p st) s)
+      own-law Unknown a = segment-law d ids rows closed small 1 (p .row) n s rest (row-in rows (p .row) h)
+      own-law Unlisted a = segment-law d ids rows closed small 6 (p .row) n s rest (row-in rows (p .row) h)
+      own-law (Before k) a = checked 7 k refl a
+      own-law Again a = rw (bumped-low (p .used) few, entry-here rows (p .row) h ids) (go (ltb (column (getD rows (p .row) []) 5) (p .used + 1)))
+        where
+          go : (b : Bool) → events (told (if b then 5 else 0) (p .row)) ≡ notedBy (if b then 5 else 0) (findings d (entryAt rows (p .row)) s)
+          go true = segment-law d ids rows closed small 5 (p .row) n s rest (row-in rows (p .row) h)
+          go false = segment-law d ids rows closed small 0 (p .row) n s rest (row-in rows (p .row) h)
+      own-law (Later k) a = checked 0 k refl (a .0)
+
+used-low : (p : Present) (n : ℕ) (st : Standing) → Fits (p .used + suc n) → Fits (presentOf st p .used + n)
+used-low p n Unknown h = omega arith
+used-low p n Unlisted h = omega arith
+used-low p n (Before k) h = omega arith
+used-low p n Again h = rw (bumped-low (p .used) (omega arith)) (omega arith)
+used-low p n (Later k) h = omega arith
 
 three : (a b c : List Note) (x y z : List Event) → x ≡ flat a ++ y → y ≡ flat b ++ z → z ≡ flat c → x ≡ flat (a ++ b ++ c)
 three a b c x y z p q r = rw (p, q, r, flat-append (a ++ b) c, flat-append a b) (sym (append-assoc (flat a) (flat b) (flat c)))
@@ -332,30 +425,39 @@ three a b c x y z p q r = rw (p, q, r, flat-append (a ++ b) c, flat-append a b) 
 -- 7. The walk.
 module _ (d : Delimiters) (ids : List (List ℕ)) (rows : Guide) (closed : Bool) (small : Small (length rows))
     (bytes : all hasByteId rows ≡ true) where
-  walk-law : (ss : List Segment) (entry used n : ℕ) → entry < length rows → Fits (used + length ss) → Fits (n + length ss)
-      → events (walkSlots d ids rows closed entry used n ss) ≡ flat (walk d (tableOf ids rows) closed (placeAt rows entry used) n ss)
+  abbrev table : Table
+  table = tableOf ids rows
+
+  walk-law : (ss : List Segment) (p : Present) (n : ℕ) → isRow 1 (getD rows (p .row) []) ≡ true
+      → Fits (p .used + length ss) → Fits (n + length ss)
+      → events (walkSlots d ids rows closed p n ss) ≡ flat (walk d table closed (presentAt rows p) n ss)
   unfolding walkSlots walk events flat
-  walk-law [] entry used n h few low = go closed
+  walk-law [] p n h few low = go closed
     where
-      go : (c : Bool)
-          → events (if c then [] else [] ∷ missingThen n (slice (bumped entry) (reachFrom rows (bumped entry) (ascii "SE")) rows) [])
-          ≡ flat (if c then [] else missing n (over (ascii "SE") (entriesIn (drop (entry + 1) rows))))
+      se : Standing
+      se = stands ids rows (p .row) (ascii "SE")
+
+      go : (c : Bool) → events (if c then [] else trailerSlots d ids rows closed p n se)
+          ≡ flat (if c then [] else missing n (law.skipped table (presentAt rows p) (standing table (presentAt rows p) (ascii "SE"))))
       go true = refl
-      go false = rw (bumped-low entry (omega arith)) (passed-law rows (entry + 1) n (ascii "SE") [] bytes ∙ append-nil _)
-  walk-law (s ∷ ss) entry used n h few low =
+      go false =
+          let o = stands-law ids rows p h (ascii "SE") in
+          rw (o .0) (trailer-law d ids rows closed small bytes p h (omega arith) n se (o .1))
+  walk-law (s ∷ ss) p n h few low =
       let id = field s 0 in
-      let st = stands ids rows entry id in
-      let o = stands-law ids rows entry used id h small in
-      let now = means rows entry id st in
-      let rest = walkSlots d ids rows closed (entryOf st entry) (usedOf st used) (bumped n) ss in
-      let later : events rest ≡ flat (walk d (tableOf ids rows) closed (moved now (placeAt rows entry used)) (n + 1) ss) =
-      rw (moved-law d ids rows closed small bytes entry used h (omega arith) id st, bumped-low n (omega arith))
-      (walk-law ss (entryOf st entry) (usedOf st used) (n + 1) (entry-in rows entry id h st (o .1))
-      (used-low used (length ss) st few) (omega arith)) in
+      let st = stands ids rows (p .row) id in
+      let o = stands-law ids rows p h id in
+      let now = means rows p st in
+      let before = presentAt rows p in
+      let rest = walkSlots d ids rows closed (presentOf st p) (bumped n) ss in
+      let later : events rest ≡ flat (walk d table closed (law.moved before now) (n + 1) ss) =
+      rw (moved-law d ids rows closed small bytes p h (omega arith) st, bumped-low n (omega arith))
+      (walk-law ss (presentOf st p) (n + 1) (entry-stays d ids rows closed small bytes p h (omega arith) st (o .1))
+      (used-low p (length ss) st few) (omega arith)) in
       rw (o .0)
-      (three (missing n (skipped now)) (segmentNote n (ownCode now used) id (findingsBy d (checkedBy now) s)) _ _ _ (events rest)
-      (skip-law d ids rows closed small bytes entry used h (omega arith) n s rest st (o .1) _)
-      (own-law d ids rows closed small bytes entry used h (omega arith) n s rest st (o .1))
+      (three (missing n (law.skipped table before now)) (segmentNote n (law.ownCode table before now) id (findingsBy d table now s)) _ _ _ (events rest)
+      (skip-law d ids rows closed small bytes p h (omega arith) n st (o .1) _)
+      (own-law d ids rows closed small bytes p h (omega arith) n s rest st (o .1))
       later)
 
 pieces-few : (t : ℕ) (s : Bytes) → length (pieces t s) ≤ length s
@@ -372,25 +474,18 @@ pub segments-few : (d : Delimiters) (s : Bytes) → length (segments d s) ≤ le
 unfolding segments
 segments-few d s = simp length-map (pieces-few (d .terminator) s)
 
-first-entry : (ids : List (List ℕ)) (rows : Guide) → isRow 1 (getD rows 0 []) ≡ true
-    → tableOf ids rows .entries ≡ entryAt rows 0 ∷ entriesIn (drop 1 rows)
-unfolding tableOf entriesIn
-first-entry ids [] e = absurd (true≢false (sym e))
-first-entry ids (r ∷ rows) e = rw e
-
-first-in : (rows : Guide) → isRow 1 (getD rows 0 []) ≡ true → 0 < length rows
-first-in [] e = absurd (true≢false (sym e))
-first-in (r ∷ rows) e = omega arith
-
 -- Document 01: the events of a walk from the start are the notes of the set, by the table that the guide means.
 pub walk-notes : (set : Bytes) (d : Delimiters) (ids : List (List ℕ)) (rows : Guide) (closed : Bool)
-    → Limits rows → Small (length set)
-    → events (left set d ids rows closed start) ≡ flat (notesOf d (tableOf ids rows) closed (segments d set))
-unfolding left start notesOf idsAreBytes
-walk-notes set d ids rows closed limits short =
-    let few = segments-few d set in
-    let small = limits .few in
-    walk-law d ids rows closed (omega arith) (limits .ids) (segments d set) 0 0 1 (first-in rows (limits .begins)) (omega arith) (omega arith)
-    ∙ ap
-    (λ (l : List Entry). flat (walk d (tableOf ids rows) closed (record { ahead = l; used = 0 }) 1 (segments d set)))
-    (sym (first-entry ids rows (limits .begins)))
+    → Limits rows → Small (length set) → {header : Segment} {after : List Segment} → segments d set ≡ header ∷ after
+    → events (left set d ids rows closed start) ≡ flat (notesOf d (tableOf ids rows) closed header after)
+unfolding left start setSlots notesOf idsAreBytes events indexAt
+walk-notes set d ids rows closed limits short {header} {after} e =
+    let fewer = segments-few d set in
+    let few : length after < length set = omega (arith, ap length e) in
+    let first = row-in rows 0 (limits .begins) in
+    let size = limits .few in
+    let note = segmentNote 1 0 (field header 0) (findings d (entryAt rows 0) header) in
+    let onward = walkSlots d ids rows closed (record { row = 0; used = 1 }) 2 after in
+    let told = segment-law d ids rows closed (omega arith) 0 0 1 header onward first in
+    let rest = walk-law d ids rows closed (omega arith) (limits .ids) after (record { row = 0; used = 1 }) 2 (limits .begins) (omega arith) (omega arith) in
+    rw (e, entry-here rows 0 (limits .begins) ids) (told ∙ rw rest (sym (flat-append note _)))

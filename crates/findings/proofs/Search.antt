@@ -1,4 +1,4 @@
--- The search for a row at a cursor, and the entries that are missing among rows.
+-- The entries that are missing among rows.
 use mathlib.Core.Path.{_≡_, refl}
 use mathlib.Core.Bool.{Bool, true, false, _&&_, true≢false}
 use mathlib.Core.List.{List, [], _∷_}
@@ -11,34 +11,20 @@ use lib.ListN.{length, getD, drop, length-drop, length-take}
 use lib.Seq.{slice, drop-drop, getD-drop, getD-take}
 use Rattle.rules.specs.Base.{if_then_else_}
 use Rattle.rules.proofs.Logic.{and-left, and-right}
-use Rattle.text.specs.Text.{indexWhere, nextWhere}
+use Rattle.text.specs.Text.{indexWhere}
 use Rattle.tables.specs.Reading.{Guide, nextMandatory, isMandatoryRow, idAt, idBytes}
 use Rattle.findings.specs.Events.{Event, Line}
+use Rattle.findings.specs.Steps.{nextMissing}
 use Rattle.findings.specs.Left.{Slots, missingThen}
+use Rattle.findings.specs.declared.Missing.{Missing}
+use Rattle.findings.specs.declared.Missing.the-variants.{Row, Nothing}
 
--- 1. Searching a list.
-module _ {A : Type 0} (p : A → Bool) where
-  -- past what does not pass, the search ends where it ended before
-  index-later : (xs : List A) (j : ℕ) → j < indexWhere p xs → indexWhere p xs ≡ suc j + indexWhere p (drop (suc j) xs)
-  unfolding indexWhere
-  index-later [] j h = absurd (not-suc-le-zero h)
-  index-later (x ∷ xs) j h = go (p x) j h (index-later xs)
-    where
-      go : (b : Bool) (j : ℕ) → j < (if b then 0 else suc (indexWhere p xs))
-          → ((i : ℕ) → i < indexWhere p xs → indexWhere p xs ≡ suc i + indexWhere p (drop (suc i) xs))
-          → (if b then 0 else suc (indexWhere p xs)) ≡ suc j + indexWhere p (drop j xs)
-      go true j k ih = absurd (not-suc-le-zero k)
-      go false zero k ih = omega arith
-      go false (suc j) k ih = omega (arith, ih j (le-of-suc-le-suc k))
+-- The mandatory rows of a list, one by one.
+-- what is told of the next one; then those after it
+abbrev pub missedBy : ℕ → Slots → Guide → ℕ → Missing → Slots
+missedBy n rest rows e (Row m) = (Line (idBytes (idAt rows m)) n (3 ∷ []) ∷ []) ∷ missingThen n (slice (m + 1) e rows) rest
+missedBy n rest rows e Nothing = rest
 
-  pub next-later : (xs : List A) (k m : ℕ) → k ≤ m → m < nextWhere p xs k → nextWhere p xs (m + 1) ≡ nextWhere p xs k
-  next-later xs k m h l =
-      let q : k + suc (m - k) ≡ m + 1 = omega arith in
-      let r = index-later (drop k xs) (m - k) (omega arith) in
-      let u = rw (drop-drop, q) at r in
-      omega arith
-
--- 2. The mandatory rows of a list, one by one.
 module _ (n : ℕ) (rest : Slots) where
   -- what is told of a row that is missing
   abbrev absentSlot : List ℕ → List Event
@@ -87,8 +73,8 @@ module _ (n : ℕ) (rest : Slots) where
     size : length (slice k e rows) ≡ min e (length rows) - k
     size = rw (length-drop, length-take)
 
-    pub miss-none : ltb m e && ltb m (length rows) ≡ false → missingThen n (slice k e rows) rest ≡ rest
-    miss-none h = go (ltb i (length (slice k e rows))) refl
+    none : ltb m e && ltb m (length rows) ≡ false → missingThen n (slice k e rows) rest ≡ rest
+    none h = go (ltb i (length (slice k e rows))) refl
       where
         go : (b : Bool) → ltb i (length (slice k e rows)) ≡ b → missingThen n (slice k e rows) rest ≡ rest
         go true l =
@@ -98,13 +84,34 @@ module _ (n : ℕ) (rest : Slots) where
             absurd (true≢false (rw (lt-ltb m e low, lt-ltb m (length rows) some) at h))
         go false l = miss-end (slice k e rows) (ltb-false i (length (slice k e rows)) l)
 
-    pub miss-next : ltb m e && ltb m (length rows) ≡ true
-        → missingThen n (slice k e rows) rest ≡ (Line (idBytes (idAt rows m)) n (3 ∷ []) ∷ []) ∷ missingThen n (slice (m + 1) e rows) rest
+    next : ltb m e && ltb m (length rows) ≡ true → missingThen n (slice k e rows) rest ≡ missedBy n rest rows e (Row m)
     unfolding idAt
-    miss-next h =
+    next h =
         let low = ltb-true m e (and-left (ltb m e) (ltb m (length rows)) h) in
         let some = ltb-true m (length rows) (and-right (ltb m e) (ltb m (length rows)) h) in
         let q : k + suc i ≡ m + 1 = omega (arith, at) in
         let r = miss-step (slice k e rows) i refl (omega (arith, at, size)) in
         let u = rw (drop-drop, q, getD-drop, ← at) at r in
         rw getD-take at u
+
+    pub miss-law : missingThen n (slice k e rows) rest ≡ missedBy n rest rows e (nextMissing rows k e)
+    unfolding nextMissing
+    miss-law = go (ltb m e && ltb m (length rows)) refl
+      where
+        go : (b : Bool) → ltb m e && ltb m (length rows) ≡ b
+            → missingThen n (slice k e rows) rest ≡ missedBy n rest rows e (if b then Row m else Nothing)
+        go true h = next h
+        go false h = none h
+
+-- what is missing is a row of the guide
+pub missing-in : (rows : Guide) (k e : ℕ) {m : ℕ} → nextMissing rows k e ≡ Row m → m < length rows
+unfolding nextMissing
+missing-in rows k e {m} h = go (ltb next e) (ltb next (length rows)) refl h
+  where
+    next : ℕ
+    next = nextMandatory rows k e
+
+    go : (a b : Bool) → ltb next (length rows) ≡ b → (if a && b then Row next else Nothing) ≡ Row m → m < length rows
+    go true true l q = let r : next ≡ m = cc in omega (arith, ltb-true next (length rows) l)
+    go true false l q = let z : _≡_ {A = ℕ} 0 1 = cc in absurd (omega arith)
+    go false b l q = let z : _≡_ {A = ℕ} 0 1 = cc in absurd (omega arith)

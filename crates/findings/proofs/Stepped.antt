@@ -7,7 +7,7 @@ use native.Mathlib.Omega.{arith}
 use borrow.Author.Tests.{lt-ltb, ltb-true, ltb-false, eqb-true, ne-eqb}
 use lib.Dec.{ltb, eqb}
 use lib.ListN.{length, take, drop, getD}
-use lib.Seq.{slice, drop-drop, getD-drop}
+use lib.Seq.{slice, drop-nil, drop-drop, getD-drop}
 use Rattle.rules.specs.Base.{Bytes, ascii, all, between, isUpperOrDigit, every, if_then_else_}
 use Rattle.rules.specs.Cutting.{Segment, field, split}
 use Rattle.rules.specs.Tables.{Syntax}
@@ -19,21 +19,25 @@ use Rattle.rules.proofs.Logic.{and-left, and-right, all-head, all-tail}
 use Rattle.text.specs.Text.{indexOf, indexWhere}
 use Rattle.text.proofs.Digits.{between-true}
 use Rattle.segments.proofs.Pieces.{segments-at, segments-none}
-use Rattle.tables.specs.Reading.{Guide, entryAt, reachFrom, nextMandatory, idBytes, isEntryRow}
+use Rattle.tables.specs.Reading.{Guide, entryAt, idBytes}
 use Rattle.text.proofs.Where.{next-here}
 use Rattle.tables.proofs.Laws.{row-within}
 use Rattle.elements.specs.declared.Coded.{Coded}
 use Rattle.findings.specs.Events.{Event, Line, Element}
-use Rattle.findings.specs.Steps.{bumped, to, echo, stands, taken, codesOf, absent, isPlaceRow, placeRow, readStep, isFaulty, lineStep, passStep, nextPlace, toldOf, elementStep, placeStep, trailerStep, stepAt, step}
-use Rattle.findings.specs.Left.{Slots, missingThen, foundSlot, surplusSlot, codeOf, codeSlot, codesThen, placesThen, placesFrom, lined, segmentThen, walkSlots, after, hand, leftAt, left, said}
+use Rattle.findings.specs.Steps.{bumped, to, echo, stands, movedTo, taken, codesOf, isPlaceRow, placeRow, headerStep, openBy, openStep, readStep, inHand, isFaulty, lineStep, nextMissing, passBy, passStep, nextPlace, toldOf, elementStep, placeStep, trailerBy, trailerStep, stepAt, step}
+use Rattle.findings.specs.Left.{Slots, missingThen, foundSlot, surplusSlot, codeOf, codeSlot, codesThen, placesThen, placesFrom, lined, segmentThen, trailerSlots, walkSlots, setSlots, after, leftAt, left, said}
 use Rattle.findings.specs.declared.Phase.{Phase}
-use Rattle.findings.specs.declared.Phase.the-variants.{Read, Passing, Place, Trailer}
+use Rattle.findings.specs.declared.Phase.the-variants.{Header, Read, Passing, Place, Trailer}
 use Rattle.findings.specs.declared.Walk.{Walk}
+use Rattle.findings.specs.declared.Standing.{Standing}
+use Rattle.findings.specs.declared.Standing.the-variants.{Unknown, Unlisted, Before, Again, Later}
+use Rattle.findings.specs.declared.Missing.{Missing}
+use Rattle.findings.specs.declared.Missing.the-variants.{Row, Nothing}
 use Rattle.findings.specs.declared.Line as line
 use Rattle.findings.specs.declared.Step.{Step}
 use Rattle.findings.specs.declared.Step.the-variants.{Quiet, Done}
 use Rattle.findings.specs.declared.Step.the-variants as tell
-use Rattle.findings.proofs.Search.{next-later, miss-none, miss-next}
+use Rattle.findings.proofs.Search.{missedBy, miss-law}
 
 -- 1. An id by value.
 plain-some : (b : ℕ) → isUpperOrDigit b ≡ true → eqb b 0 ≡ false
@@ -104,12 +108,6 @@ module _ (d : Delimiters) (notes : List Syntax) (s : Segment) (n : ℕ) (rest : 
       let q : k + suc i ≡ k + i + 1 = omega arith in
       sym (rw (drop-drop, q, getD-drop) at (places-at (drop k rows)))
 
--- the row that a search ends at is the same past a row that it passes
-reach-later : (rows : Guide) (k : ℕ) (id : Bytes) → nextMandatory rows k (reachFrom rows k id) < reachFrom rows k id
-    → reachFrom rows (nextMandatory rows k (reachFrom rows k id) + 1) id ≡ reachFrom rows k id
-unfolding reachFrom nextMandatory
-reach-later rows k id h = next-later (isEntryRow id) rows k _ (omega arith) h
-
 module _ (set : Bytes) (d : Delimiters) (ids : List (List ℕ)) (rows : Guide) (closed : Bool) where
   abbrev leftBy : Walk → Slots
   leftBy = left set d ids rows closed
@@ -120,8 +118,8 @@ module _ (set : Bytes) (d : Delimiters) (ids : List (List ℕ)) (rows : Guide) (
   abbrev onward : Walk → Slots
   onward = after set d ids rows closed
 
-  abbrev held : Walk → Segment
-  held = hand set d ids rows closed
+  abbrev inside : Walk → Segment
+  inside = inHand set d
 
   abbrev says : Step → Slots
   says = said set d ids rows closed
@@ -129,65 +127,81 @@ module _ (set : Bytes) (d : Delimiters) (ids : List (List ℕ)) (rows : Guide) (
   -- another phase of the same walk
   left-to : (w : Walk) (p : Phase) → leftBy (to w p) ≡ remains w p
   unfolding left to
+  left-to w Header = refl
   left-to w Read = refl
   left-to w (Passing k) = refl
   left-to w (Place k n told) = refl
-  left-to w (Trailer k) = refl
+  left-to w (Trailer k e) = refl
 
   -- 3. Reading.
   module _ (w : Walk) (end : ℕ) (h : w .at < length set) (q : end ≡ w .at + indexOf (d .terminator) (drop (w .at) set)) where
     taken-law : onward w
-        ≡ [] ∷ leftBy (taken rows w end (stands ids rows (w .entry) (field (split (d .element) (take (end - w .at) (drop (w .at) set))) 0)))
+        ≡ [] ∷ leftBy (taken rows w end (stands ids rows (w .present .row) (field (split (d .element) (take (end - w .at) (drop (w .at) set))) 0)))
     unfolding left taken walkSlots
     taken-law = rw (segments-at d set (w .at) end h q)
 
   read-law : (w : Walk) → onward w ≡ says (readStep set d ids rows closed w)
-  unfolding readStep walkSlots
+  unfolding readStep walkSlots openStep
   read-law w = go (ltb (w .at) (length set)) refl
     where
       end : ℕ
       end = w .at + indexOf (d .terminator) (drop (w .at) set)
 
       v : Walk
-      v = taken rows w end (stands ids rows (w .entry) (field (split (d .element) (take (end - w .at) (drop (w .at) set))) 0))
+      v = taken rows w end (stands ids rows (w .present .row) (field (split (d .element) (take (end - w .at) (drop (w .at) set))) 0))
 
-      trailer : Walk
-      trailer = to w (Trailer (bumped (w .entry)))
+      opened : (st : Standing) → trailerSlots d ids rows closed (w .present) (bumped (w .hand .position)) st ≡ says (openBy w st)
+      opened Unknown = refl
+      opened Unlisted = refl
+      opened (Before k) = refl
+      opened Again = refl
+      opened (Later k) = ap (λ (l : Slots). [] ∷ l) (sym (left-to w (Trailer (bumped (w .present .row)) k)))
 
-      ended : (c : Bool) → (if c then [] else [] ∷ remains w (Trailer (bumped (w .entry))))
-          ≡ says (if c then Done else Quiet trailer)
+      ended : (c : Bool)
+          → (if c then [] else trailerSlots d ids rows closed (w .present) (bumped (w .hand .position)) (stands ids rows (w .present .row) (ascii "SE")))
+          ≡ says (if c then Done else openStep ids rows w)
       ended true = refl
-      ended false = ap (λ (l : Slots). [] ∷ l) (sym (left-to w (Trailer (bumped (w .entry)))))
+      ended false = opened (stands ids rows (w .present .row) (ascii "SE"))
 
-      go : (b : Bool) → ltb (w .at) (length set) ≡ b
-          → onward w ≡ says (if b then Quiet v else (if closed then Done else Quiet trailer))
+      go : (b : Bool) → ltb (w .at) (length set) ≡ b → onward w ≡ says (if b then Quiet v else (if closed then Done else openStep ids rows w))
       go true h = taken-law w end (ltb-true (w .at) (length set) h) refl
       go false h = rw (segments-none d set (w .at) (ltb-false (w .at) (length set) h)) (ended closed)
 
+  header-law : (w : Walk) → remains w Header ≡ says (headerStep set d w)
+  unfolding headerStep setSlots left missingThen
+  header-law w = go (ltb (w .at) (length set)) refl
+    where
+      end : ℕ
+      end = w .at + indexOf (d .terminator) (drop (w .at) set)
+
+      go : (b : Bool) → ltb (w .at) (length set) ≡ b → remains w Header ≡ says (if b then Quiet (movedTo w end 0) else Done)
+      go true h = rw (segments-at d set (w .at) end (ltb-true (w .at) (length set) h) refl, drop-nil (bumped (w .present .row)))
+      go false h = rw (segments-none d set (w .at) (ltb-false (w .at) (length set) h))
+
   -- 4. The note of the segment in hand.
   line-law : (w : Walk)
-      → segmentThen d ids rows closed (w .own) (w .check) (w .position) (held w) (onward w)
+      → segmentThen d ids rows closed (w .hand .own) (w .hand .check) (w .hand .position) (inside w) (onward w)
       ≡ says (lineStep set d rows w)
   unfolding segmentThen lineStep every
-  line-law w = go (isFaulty set d rows w) (eqb (w .own) 0) refl
+  line-law w = go (isFaulty set d rows w) (eqb (w .hand .own) 0) refl
     where
       id : Bytes
-      id = field (held w) 0
+      id = field (inside w) 0
 
       place : Phase
-      place = Place (bumped (w .check)) 1 false
+      place = Place (bumped (w .hand .check)) 1 false
 
       told : Bool → line.Line
-      told f = record { id = echo id; position = w .position; own = w .own; faulty = f }
+      told f = record { id = echo id; position = w .hand .position; own = w .hand .own; faulty = f }
 
       places : Slots
-      places = placesThen d (entryAt rows (w .check) .notes) (held w) (drop (bumped (w .check)) rows) 1 (onward w)
+      places = placesThen d (entryAt rows (w .hand .check) .notes) (inside w) (drop (bumped (w .hand .check)) rows) 1 (onward w)
 
       placed : leftBy (to w place) ≡ places
-      placed = left-to w place ∙ places-start d (entryAt rows (w .check) .notes) (held w) 1 (onward w) rows (bumped (w .check))
+      placed = left-to w place ∙ places-start d (entryAt rows (w .hand .check) .notes) (inside w) 1 (onward w) rows (bumped (w .hand .check))
 
-      go : (f z : Bool) → eqb (w .own) 0 ≡ z
-          → lined (echoed id) (w .position) (codesOf (w .own) f) ∷ (if f then places else onward w)
+      go : (f z : Bool) → eqb (w .hand .own) 0 ≡ z
+          → lined (echoed id) (w .hand .position) (codesOf (w .hand .own) f) ∷ (if f then places else onward w)
           ≡ says (if f then tell.Segment (told f) (to w place) else (if z then Quiet (to w Read) else tell.Segment (told f) (to w Read)))
       go true true e = rw (e, echo-law id, placed)
       go true false e = rw (e, echo-law id, placed)
@@ -197,37 +211,22 @@ module _ (set : Bytes) (d : Delimiters) (ids : List (List ℕ)) (rows : Guide) (
   -- 5. Passing over entries.
   pass-law : (w : Walk) (k : ℕ) → remains w (Passing k) ≡ says (passStep set d rows w k)
   unfolding passStep every
-  pass-law w k = go (ltb m (w .entry) && ltb m (length rows)) refl
+  pass-law w k = miss-law (w .hand .position) note rows k (w .present .row) ∙ go (nextMissing rows k (w .present .row))
     where
-      m : ℕ
-      m = nextMandatory rows k (w .entry)
-
       note : Slots
-      note = segmentThen d ids rows closed (w .own) (w .check) (w .position) (held w) (onward w)
+      note = segmentThen d ids rows closed (w .hand .own) (w .hand .check) (w .hand .position) (inside w) (onward w)
 
-      go : (b : Bool) → ltb m (w .entry) && ltb m (length rows) ≡ b
-          → missingThen (w .position) (slice k (w .entry) rows) note
-          ≡ says (if b then tell.Segment (absent rows m (w .position)) (to w (Passing (m + 1))) else lineStep set d rows w)
-      go true h = rw (left-to w (Passing (m + 1))) (miss-next (w .position) note rows k (w .entry) h)
-      go false h = miss-none (w .position) note rows k (w .entry) h ∙ line-law w
+      go : (m : Missing) → missedBy (w .hand .position) note rows (w .present .row) m ≡ says (passBy set d rows w m)
+      go (Row m) = rw (left-to w (Passing (m + 1)))
+      go Nothing = line-law w
 
-  trailer-law : (w : Walk) (k : ℕ) → remains w (Trailer k) ≡ says (trailerStep rows w k)
+  trailer-law : (w : Walk) (k e : ℕ) → remains w (Trailer k e) ≡ says (trailerStep rows w k e)
   unfolding trailerStep every
-  trailer-law w k = go (ltb m se && ltb m (length rows)) refl
+  trailer-law w k e = miss-law (bumped (w .hand .position)) [] rows k e ∙ go (nextMissing rows k e)
     where
-      se : ℕ
-      se = reachFrom rows k (ascii "SE")
-
-      m : ℕ
-      m = nextMandatory rows k se
-
-      go : (b : Bool) → ltb m se && ltb m (length rows) ≡ b
-          → missingThen (bumped (w .position)) (slice k se rows) []
-          ≡ says (if b then tell.Segment (absent rows m (bumped (w .position))) (to w (Trailer (m + 1))) else Done)
-      go true h =
-          let before = ltb-true m se (and-left (ltb m se) (ltb m (length rows)) h) in
-          rw (left-to w (Trailer (m + 1)), reach-later rows k (ascii "SE") before) (miss-next (bumped (w .position)) [] rows k se h)
-      go false h = miss-none (bumped (w .position)) [] rows k se h
+      go : (m : Missing) → missedBy (bumped (w .hand .position)) [] rows e m ≡ says (trailerBy rows w e m)
+      go (Row m) = rw (left-to w (Trailer (m + 1) e))
+      go Nothing = refl
 
   -- 6. The places of the segment in hand.
   told-law : (f : Finding) (v : Walk)
@@ -240,10 +239,10 @@ module _ (set : Bytes) (d : Delimiters) (ids : List (List ℕ)) (rows : Guide) (
 
   module _ (w : Walk) (n : ℕ) where
     abbrev notes : List Syntax
-    notes = entryAt rows (w .check) .notes
+    notes = entryAt rows (w .hand .check) .notes
 
     abbrev s : Segment
-    s = held w
+    s = inside w
 
     abbrev rest : Slots
     rest = onward w
@@ -306,10 +305,11 @@ module _ (set : Bytes) (d : Delimiters) (ids : List (List ℕ)) (rows : Guide) (
           go false e false f = ended f
 
   by-phase : (w : Walk) (p : Phase) → remains w p ≡ says (stepAt set d ids rows closed w p)
+  by-phase w Header = header-law w
   by-phase w Read = read-law w
   by-phase w (Passing k) = pass-law w k
   by-phase w (Place k n told) = place-law w n k told
-  by-phase w (Trailer k) = trailer-law w k
+  by-phase w (Trailer k e) = trailer-law w k e
 
   pub step-law : (w : Walk) → left set d ids rows closed w ≡ said set d ids rows closed (step set d ids rows closed w)
   unfolding left step

@@ -13,14 +13,17 @@ use Rattle.rules.specs.Elements.{findings}
 use Rattle.rules.specs.Segments.{echoed}
 use Rattle.rules.specs.declared.Delimiters.{Delimiters}
 use Rattle.rules.specs.declared.Finding.{Finding}
-use Rattle.tables.specs.Reading.{Guide, entryAt, reachFrom, idAt, idBytes, isMandatoryRow}
+use Rattle.tables.specs.Reading.{Guide, entryAt, idAt, idBytes, isMandatoryRow}
 use Rattle.elements.specs.Places.{nextCode}
 use Rattle.elements.specs.declared.Coded.{Coded}
 use Rattle.findings.specs.Events.{Event, Line, Element}
-use Rattle.findings.specs.Steps.{bumped, codesOf, isChecked, placeRow, stands, ownOf, checkOf, entryOf, usedOf, passingOf, inHand}
+use Rattle.findings.specs.Steps.{bumped, codesOf, isChecked, placeRow, stands, ownOf, checkOf, presentOf, passingOf, inHand}
 use Rattle.findings.specs.declared.Phase.{Phase}
-use Rattle.findings.specs.declared.Phase.the-variants.{Read, Passing, Place, Trailer}
+use Rattle.findings.specs.declared.Phase.the-variants.{Header, Read, Passing, Place, Trailer}
+use Rattle.findings.specs.declared.Present.{Present}
 use Rattle.findings.specs.declared.Walk.{Walk}
+use Rattle.findings.specs.declared.Standing.{Standing}
+use Rattle.findings.specs.declared.Standing.the-variants.{Unknown, Unlisted, Before, Again, Later}
 use Rattle.findings.specs.declared.Line as line
 use Rattle.findings.specs.declared.Step.{Step}
 use Rattle.findings.specs.declared.Step.the-variants.{Quiet, Done}
@@ -89,29 +92,40 @@ module _ (d : Delimiters) (ids : List (List ℕ)) (rows : Guide) (closed : Bool)
       lined (echoed (field s 0)) n (codesOf own faulty)
       ∷ (if faulty then placesThen d (entryAt rows check .notes) s (drop (bumped check) rows) 1 rest else rest)
 
-  -- the segments from position n on, with the present entry in its row
-  unfoldable pub walkSlots : ℕ → ℕ → ℕ → List Segment → Slots
-  walkSlots entry used n [] =
-      if closed then [] else [] ∷ missingThen n (slice (bumped entry) (reachFrom rows (bumped entry) (ascii "SE")) rows) []
-  walkSlots entry used n (s ∷ ss) =
-      let st = stands ids rows entry (field s 0) in
-      let rest = walkSlots (entryOf st entry) (usedOf st used) (bumped n) ss in
-      [] ∷ missingThen n (slice (passingOf st entry) (entryOf st entry) rows) (segmentThen (ownOf rows st entry used) (checkOf st entry) n s rest)
+  -- what a missing trailer at position n passes over, by the standing of SE
+  abbrev pub trailerSlots : Present → ℕ → Standing → Slots
+  trailerSlots p n Unknown = []
+  trailerSlots p n Unlisted = []
+  trailerSlots p n (Before k) = []
+  trailerSlots p n Again = []
+  trailerSlots p n (Later k) = [] ∷ missingThen n (slice (bumped (p .row)) k rows) []
+
+  -- the segments from position n on
+  unfoldable pub walkSlots : Present → ℕ → List Segment → Slots
+  walkSlots p n [] = if closed then [] else trailerSlots p n (stands ids rows (p .row) (ascii "SE"))
+  walkSlots p n (s ∷ ss) =
+      let st = stands ids rows (p .row) (field s 0) in
+      let rest = walkSlots (presentOf st p) (bumped n) ss in
+      [] ∷ missingThen n (slice (passingOf st p) (presentOf st p .row) rows) (segmentThen (ownOf rows st p) (checkOf st p) n s rest)
+
+  -- the header at position n, and the segments after it
+  unfoldable pub setSlots : ℕ → List Segment → Slots
+  setSlots n [] = []
+  setSlots n (s ∷ ss) = [] ∷ segmentThen 0 0 n s (walkSlots (record { row = 0; used = 1 }) (bumped n) ss)
 
 module _ (set : Bytes) (d : Delimiters) (ids : List (List ℕ)) (rows : Guide) (closed : Bool) where
   -- after the segment in hand
   abbrev pub after : Walk → Slots
-  after w = walkSlots d ids rows closed (w .entry) (w .used) (bumped (w .position)) (segments d (drop (w .at) set))
-
-  abbrev pub hand : Walk → Segment
-  hand = inHand set d
+  after w = walkSlots d ids rows closed (w .present) (bumped (w .hand .position)) (segments d (drop (w .at) set))
 
   abbrev pub leftAt : Walk → Phase → Slots
+  leftAt w Header = setSlots d ids rows closed (bumped (w .hand .position)) (segments d (drop (w .at) set))
   leftAt w Read = after w
   leftAt w (Passing k) =
-      missingThen (w .position) (slice k (w .entry) rows) (segmentThen d ids rows closed (w .own) (w .check) (w .position) (hand w) (after w))
-  leftAt w (Place k n told) = placesFrom d (entryAt rows (w .check) .notes) (hand w) rows k n told (after w)
-  leftAt w (Trailer k) = missingThen (bumped (w .position)) (slice k (reachFrom rows k (ascii "SE")) rows) []
+      missingThen (w .hand .position) (slice k (w .present .row) rows)
+      (segmentThen d ids rows closed (w .hand .own) (w .hand .check) (w .hand .position) (inHand set d w) (after w))
+  leftAt w (Place k n told) = placesFrom d (entryAt rows (w .hand .check) .notes) (inHand set d w) rows k n told (after w)
+  leftAt w (Trailer k e) = missingThen (bumped (w .hand .position)) (slice k e rows) []
 
   unfoldable pub left : Walk → Slots
   left w = leftAt w (w .phase)

@@ -1,13 +1,18 @@
 -- What a segment comes to before its elements are read.
 use Prim.Native.Nat.{ℕ}
-use mathlib.Core.Bool.{Bool, _&&_}
+use mathlib.Core.Bool.{Bool, true, false}
 use mathlib.Core.List.{List, []}
 use lib.Dec.{ltb}
-use lib.ListN.{length, getD}
-use Rattle.rules.specs.Base.{Bytes, ascii, member, same, if_then_else_}
-use Rattle.tables.specs.Rows.{column, idsIn}
-use Rattle.tables.specs.Reading.{Guide, entryAt, reachFrom, nextMandatory, nextInOrder}
-use Rattle.findings.specs.Steps.{bumped}
+use lib.ListN.{getD}
+use Rattle.rules.specs.Base.{Bytes, ascii, if_then_else_}
+use Rattle.tables.specs.Rows.{column}
+use Rattle.tables.specs.Reading.{Guide}
+use Rattle.findings.specs.Steps.{bumped, stands, nextMissing}
+use Rattle.findings.specs.declared.Missing.{Missing}
+use Rattle.findings.specs.declared.Missing.the-variants.{Row, Nothing}
+use Rattle.findings.specs.declared.Present.{Present}
+use Rattle.findings.specs.declared.Standing.{Standing}
+use Rattle.findings.specs.declared.Standing.the-variants.{Unknown, Unlisted, Before, Again, Later}
 use Rattle.findings.specs.declared.Turn.{Turn}
 use Rattle.findings.specs.declared.Turn.the-variants.{Noted, Quiet}
 
@@ -15,20 +20,34 @@ use Rattle.findings.specs.declared.Turn.the-variants.{Noted, Quiet}
 abbrev pub usedAgain : Guide → ℕ → ℕ → Turn
 usedAgain rows k used = if ltb (column (getD rows k []) 5) used then Noted else Quiet k used
 
--- the first use of the entry of row k, where there is one
-abbrev pub usedAnew : Guide → ℕ → Turn
-usedAnew rows k = if ltb k (length rows) then Quiet k 1 else Noted
+-- there is a missing entry
+abbrev pub isMissing : Missing → Bool
+isMissing (Row m) = true
+isMissing Nothing = false
 
--- a segment with this id, at the present entry and its uses
-unfoldable pub turnOf : List (List ℕ) → Guide → ℕ → ℕ → Bytes → Turn
-turnOf ids rows entry used id =
-    let again = usedAgain rows entry (bumped used) in
-    let anew = usedAnew rows (nextInOrder rows (bumped entry) id) in
-    if member id (idsIn ids) then (if same (entryAt rows entry .id) id then again else anew) else Noted
+-- the first use of the entry of row k, where none is missing from another row on
+abbrev pub usedAnew : Guide → ℕ → ℕ → Turn
+usedAnew rows from k = if isMissing (nextMissing rows from k) then Noted else Quiet k 1
 
--- a missing trailer passes over a mandatory entry from row k on
-unfoldable pub passesAny : Guide → ℕ → Bool
-passesAny rows k =
-    let se = reachFrom rows k (ascii "SE") in
-    let m = nextMandatory rows k se in
-    ltb m se && ltb m (length rows)
+module _ (ids : List (List ℕ)) (rows : Guide) (p : Present) where
+  -- a segment with this standing
+  abbrev pub turnBy : Standing → Turn
+  turnBy Unknown = Noted
+  turnBy Unlisted = Noted
+  turnBy (Before k) = Noted
+  turnBy Again = usedAgain rows (p .row) (bumped (p .used))
+  turnBy (Later k) = usedAnew rows (bumped (p .row)) k
+
+  unfoldable pub turnOf : Bytes → Turn
+  turnOf id = turnBy (stands ids rows (p .row) id)
+
+  -- a missing trailer, by the standing of SE, passes over a mandatory entry
+  abbrev pub passesBy : Standing → Bool
+  passesBy Unknown = false
+  passesBy Unlisted = false
+  passesBy (Before k) = false
+  passesBy Again = false
+  passesBy (Later k) = isMissing (nextMissing rows (bumped (p .row)) k)
+
+  unfoldable pub passesAny : Bool
+  passesAny = passesBy (stands ids rows (p .row) (ascii "SE"))

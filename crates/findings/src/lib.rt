@@ -18,37 +18,55 @@ use tables::SegmentId;
 
 // What a step has come to.
 pub enum Phase {
+    // the header: the first use of the first entry
+    Header,
     // the next segment
     Read,
     // the mandatory entries that the segment in hand passes over, from this row on; after them, its own note
     Passing(usize),
     // the next element from this row on, at this place, and whether the code of its value is told
     Place(usize, usize, bool),
-    // the mandatory entries that a missing trailer passes over, from this row on
-    Trailer(usize),
+    // the mandatory entries that a missing trailer passes over, from this row on and before that one
+    Trailer(usize, usize),
 }
 
-// Where a walk has come to: the segment in hand, where the next one starts, how many were read, the row of the present entry and how
-// often that was used; and of the segment in hand the code of its standing and the row of the entry by which its elements are checked.
-pub struct Walk {
+// The segment in hand: from where to where it lies, its position, the code of its standing, and the row of the entry by which its
+// elements are checked.
+pub struct Hand {
     pub start: usize,
     pub end: usize,
-    pub at: usize,
     pub position: usize,
-    pub entry: usize,
-    pub used: usize,
     pub own: u8,
     pub check: usize,
+}
+
+// The present entry: its row, and how often it was used.
+pub struct Present {
+    pub row: usize,
+    pub used: usize,
+}
+
+// Where a walk has come to: the segment in hand, where the next one starts, and the present entry.
+pub struct Walk {
+    pub hand: Hand,
+    pub at: usize,
+    pub present: Present,
     pub phase: Phase,
 }
 
-// How a segment stands to the table and the present place; the number is the row of its entry.
+// How a segment stands to the table and the present entry; the number is the row of its own.
 pub enum Standing {
     Unknown,
     Unlisted,
     Before(usize),
     Again,
     Later(usize),
+}
+
+// A mandatory segment that is passed over, by its row.
+pub enum Missing {
+    Row(usize),
+    Nothing,
 }
 
 // What a segment comes to before its elements are read: a note, or none and then the row of its entry and how often that is used.
@@ -89,15 +107,16 @@ pub fn start() -> Walk
     ensures { λ r. ⌜ r ≡ steps.start ⌝ }
 {
     Walk {
-        start: 0,
-        end: 0,
+        hand: Hand {
+            start: 0,
+            end: 0,
+            position: 0,
+            own: 0,
+            check: 0,
+        },
         at: 0,
-        position: 0,
-        entry: 0,
-        used: 0,
-        own: 0,
-        check: 0,
-        phase: Phase::Read,
+        present: Present { row: 0, used: 0 },
+        phase: Phase::Header,
     }
 }
 
@@ -105,15 +124,12 @@ pub fn start() -> Walk
 fn to(w: Walk, phase: Phase) -> Walk
     ensures { λ r. ⌜ r ≡ steps.to w phase ⌝ }
 {
+    let hand = w.hand;
+    let present = w.present;
     Walk {
-        start: w.start,
-        end: w.end,
+        hand,
         at: w.at,
-        position: w.position,
-        entry: w.entry,
-        used: w.used,
-        own: w.own,
-        check: w.check,
+        present,
         phase,
     }
 }
@@ -158,51 +174,51 @@ fn echo(id: &[u8]) -> SegmentId
     }
 }
 
-// How an id stands to an entry that has another one.
-fn stands_elsewhere(id: &[u8], guide: &[[u16; 6]], entry: usize) -> Standing
-    ensures { λ r. ⌜ r ≡ steps.standsElsewhere (now (guide .entry)) entry (now (id .entry)) ⌝ }
-{
-    let ahead = tables::reach(guide, bumped(entry), id);
-    if ahead < guide.len() {
-        return Standing::Later(ahead);
-    }
-    let any = tables::reach(guide, 0, id);
-    if any < guide.len() {
-        return Standing::Before(any);
-    }
-    Standing::Unlisted
-}
-
-// How an id stands to the present entry.
-fn stands(id: &[u8], directory: &[[u8; 3]], guide: &[[u16; 6]], entry: usize) -> Standing
-    ensures { λ r. ⌜ r ≡ steps.stands (now (directory .entry)) (now (guide .entry)) entry (now (id .entry)) ⌝ }
+// How an id stands to the present entry: which of the two rows comes first.
+fn stands(id: &[u8], directory: &[[u8; 3]], guide: &[[u16; 6]], present: usize) -> Standing
+    ensures { λ r. ⌜ r ≡ steps.stands (now (directory .entry)) (now (guide .entry)) present (now (id .entry)) ⌝ }
 {
     if !tables::is_known(id, directory) {
         return Standing::Unknown;
     }
-    if tables::is_entry(guide, entry, id) {
-        return Standing::Again;
+    let row = tables::reach(guide, id);
+    if guide.len() <= row {
+        return Standing::Unlisted;
     }
-    stands_elsewhere(id, guide, entry)
+    if row < present {
+        return Standing::Before(row);
+    }
+    if present < row {
+        return Standing::Later(row);
+    }
+    Standing::Again
 }
 
-// The segment up to `end` is in hand with a code, to be checked by the entry of row `check`; the place stays.
-fn stayed(w: Walk, end: usize, own: u8, check: usize) -> Walk
-    requires { ⌜ end < 18446744073709551615 ⌝ }
-    ensures { λ r. ⌜ r ≡ record { start = w .at; end = end; at = end + 1; position = steps.bumped (w .position); entry = w .entry; used = w .used; own = own; check = check; phase = phase.Passing (w .entry) } ⌝ }
+// The segment up to `end` is taken in hand with a code, to be checked by the entry of row `check`.
+fn held(w: Walk, end: usize, own: u8, check: usize) -> Hand
+    ensures { λ r. ⌜ r ≡ steps.held w end own check ⌝ }
 {
-    let at = end + 1;
-    let entry = w.entry;
-    Walk {
+    Hand {
         start: w.at,
         end,
-        at,
-        position: bumped(w.position),
-        entry,
-        used: w.used,
+        position: bumped(w.hand.position),
         own,
         check,
-        phase: Phase::Passing(entry),
+    }
+}
+
+// The same, and the present entry stays.
+fn stayed(w: Walk, end: usize, own: u8, check: usize) -> Walk
+    requires { ⌜ end < 18446744073709551615 ⌝ }
+    ensures { λ r. ⌜ r ≡ record { hand = steps.held w end own check; at = end + 1; present = w .present; phase = phase.Passing (w .present .row) } ⌝ }
+{
+    let at = end + 1;
+    let present = w.present;
+    Walk {
+        hand: held(w, end, own, check),
+        at,
+        present,
+        phase: Phase::Passing(present.row),
     }
 }
 
@@ -229,36 +245,27 @@ fn repeated(guide: &[[u16; 6]], w: Walk, end: usize) -> Walk
     ensures { λ r. ⌜ r ≡ steps.taken (now (guide .entry)) w end standing.Again ⌝ }
 {
     let at = end + 1;
-    let used = bumped(w.used);
+    let row = w.present.row;
+    let used = bumped(w.present.used);
     Walk {
-        start: w.at,
-        end,
+        hand: held(w, end, use_code(guide, row, used), row),
         at,
-        position: bumped(w.position),
-        entry: w.entry,
-        used,
-        own: use_code(guide, w.entry, used),
-        check: w.entry,
-        phase: Phase::Passing(w.entry),
+        present: Present { row, used },
+        phase: Phase::Passing(row),
     }
 }
 
-// The segment up to `end` is in hand, and the place moves to the entry of row k.
+// The segment up to `end` is in hand, the first use of the entry of row k.
 fn moved(w: Walk, end: usize, k: usize) -> Walk
     requires { ⌜ end < 18446744073709551615 ⌝ }
-    ensures { λ r. ⌜ r ≡ record { start = w .at; end = end; at = end + 1; position = steps.bumped (w .position); entry = k; used = 1; own = 0; check = k; phase = phase.Passing (steps.bumped (w .entry)) } ⌝ }
+    ensures { λ r. ⌜ r ≡ steps.movedTo w end k ⌝ }
 {
     let at = end + 1;
     Walk {
-        start: w.at,
-        end,
+        hand: held(w, end, 0, k),
         at,
-        position: bumped(w.position),
-        entry: k,
-        used: 1,
-        own: 0,
-        check: k,
-        phase: Phase::Passing(bumped(w.entry)),
+        present: Present { row: k, used: 1 },
+        phase: Phase::Passing(bumped(w.present.row)),
     }
 }
 
@@ -268,11 +275,33 @@ fn taken(guide: &[[u16; 6]], w: Walk, end: usize, standing: Standing) -> Walk
     ensures { λ r. ⌜ r ≡ steps.taken (now (guide .entry)) w end standing ⌝ }
 {
     match standing {
-        Standing::Unknown => stayed(w, end, 1, w.entry),
-        Standing::Unlisted => stayed(w, end, 6, w.entry),
+        Standing::Unknown => stayed(w, end, 1, w.present.row),
+        Standing::Unlisted => stayed(w, end, 6, w.present.row),
         Standing::Before(k) => stayed(w, end, 7, k),
         Standing::Again => repeated(guide, w, end),
         Standing::Later(k) => moved(w, end, k),
+    }
+}
+
+// The header is taken in hand.
+fn header(set: &[u8], d: Delimiters, w: Walk) -> Step
+    ensures { λ r. ⌜ r ≡ steps.headerStep (now (set .entry)) d w ⌝ }
+{
+    let at = w.at;
+    if at < set.len() {
+        let end = text::find(set, at, d.terminator);
+        return Step::Quiet(moved(w, end, 0));
+    }
+    Step::Done
+}
+
+// The last step for SE, which is missing, with no note for SE itself.
+fn end_open(directory: &[[u8; 3]], guide: &[[u16; 6]], w: Walk) -> Step
+    ensures { λ r. ⌜ r ≡ steps.openStep (now (directory .entry)) (now (guide .entry)) w ⌝ }
+{
+    match stands(&rules::SE, directory, guide, w.present.row) {
+        Standing::Later(row) => { Step::Quiet(to(w, Phase::Trailer(bumped(w.present.row), row))) }
+        _ => Step::Done,
     }
 }
 
@@ -291,13 +320,24 @@ fn read(
     if at < set.len() {
         let end = text::find(set, at, d.terminator);
         let id = segments::id(&set[at..end], d.element);
-        let standing = stands(id, directory, guide, w.entry);
+        let standing = stands(id, directory, guide, w.present.row);
         return Step::Quiet(taken(guide, w, end, standing));
     }
     if closed {
         return Step::Done;
     }
-    Step::Quiet(to(w, Phase::Trailer(bumped(w.entry))))
+    end_open(directory, guide, w)
+}
+
+// The first mandatory segment from row `from` on and before row `end`.
+fn next_missing(guide: &[[u16; 6]], from: usize, end: usize) -> Missing
+    ensures { λ r. ⌜ r ≡ steps.nextMissing (now (guide .entry)) from end ⌝ }
+{
+    let row = tables::next_mandatory(guide, from, end);
+    if row < end && row < guide.len() {
+        return Missing::Row(row);
+    }
+    Missing::Nothing
 }
 
 // The mandatory segment of row k is missing.
@@ -323,18 +363,24 @@ fn is_checked(own: u8) -> bool
 fn is_faulty(set: &[u8], d: Delimiters, guide: &[[u16; 6]], w: Walk) -> bool
     ensures { λ r. ⌜ r ≡ steps.isFaulty (now (set .entry)) d (now (guide .entry)) w ⌝ }
 {
-    is_checked(w.own) && !elements::is_clean(text::part(set, w.start, w.end), d, guide, w.check)
+    is_checked(w.hand.own)
+        && !elements::is_clean(
+            text::part(set, w.hand.start, w.hand.end),
+            d,
+            guide,
+            w.hand.check,
+        )
 }
 
 // What is told of the segment in hand.
 fn line_of(set: &[u8], d: Delimiters, w: Walk, faulty: bool) -> Line
-    ensures { λ r. ⌜ r ≡ record { id = steps.echo (cutting.field (steps.inHand (now (set .entry)) d w) 0); position = w .position; own = w .own; faulty = faulty } ⌝ }
+    ensures { λ r. ⌜ r ≡ record { id = steps.echo (cutting.field (steps.inHand (now (set .entry)) d w) 0); position = w .hand .position; own = w .hand .own; faulty = faulty } ⌝ }
 {
-    let id = segments::id(text::part(set, w.start, w.end), d.element);
+    let id = segments::id(text::part(set, w.hand.start, w.hand.end), d.element);
     Line {
         id: echo(id),
-        position: w.position,
-        own: w.own,
+        position: w.hand.position,
+        own: w.hand.own,
         faulty,
     }
 }
@@ -345,9 +391,9 @@ fn note(set: &[u8], d: Delimiters, guide: &[[u16; 6]], w: Walk) -> Step
 {
     if is_faulty(set, d, guide, w) {
         let line = line_of(set, d, w, true);
-        return Step::Segment(line, to(w, Phase::Place(bumped(w.check), 1, false)));
+        return Step::Segment(line, to(w, Phase::Place(bumped(w.hand.check), 1, false)));
     }
-    if w.own == 0 {
+    if w.hand.own == 0 {
         return Step::Quiet(to(w, Phase::Read));
     }
     Step::Segment(line_of(set, d, w, false), to(w, Phase::Read))
@@ -357,12 +403,13 @@ fn note(set: &[u8], d: Delimiters, guide: &[[u16; 6]], w: Walk) -> Step
 fn pass(set: &[u8], d: Delimiters, guide: &[[u16; 6]], w: Walk, k: usize) -> Step
     ensures { λ r. ⌜ r ≡ steps.passStep (now (set .entry)) d (now (guide .entry)) w k ⌝ }
 {
-    let missing = tables::next_mandatory(guide, k, w.entry);
-    if missing < w.entry && missing < guide.len() {
-        let line = absent(guide, missing, w.position);
-        return Step::Segment(line, to(w, Phase::Passing(missing + 1)));
+    match next_missing(guide, k, w.present.row) {
+        Missing::Row(row) => {
+            let line = absent(guide, row, w.hand.position);
+            Step::Segment(line, to(w, Phase::Passing(row + 1)))
+        }
+        Missing::Nothing => note(set, d, guide, w),
     }
-    note(set, d, guide, w)
 }
 
 // The next code of a place, or the next place.
@@ -390,10 +437,10 @@ fn element(
     ensures { λ r. ⌜ r ≡ steps.elementStep (now (set .entry)) d (now (guide .entry)) w k n told ⌝ }
 {
     let coded = elements::next_code(
-        text::part(set, w.start, w.end),
+        text::part(set, w.hand.start, w.hand.end),
         d,
         guide,
-        w.check,
+        w.hand.check,
         k,
         n,
         told,
@@ -411,7 +458,7 @@ fn surplus(set: &[u8], d: Delimiters, w: Walk, n: usize) -> Step
     ensures { λ r. ⌜ r ≡ steps.toldOf (record { place = n; reference = 0; code = if ltb n (length (steps.inHand (now (set .entry)) d w)) then 3 else 0 }) (steps.to w phase.Read) ⌝ }
 {
     let onward = to(w, Phase::Read);
-    if n < segments::field_count(text::part(set, w.start, w.end), d.element) {
+    if n < segments::field_count(text::part(set, w.hand.start, w.hand.end), d.element) {
         return Step::Element(Finding::new(n, 0, 3), onward);
     }
     Step::Quiet(onward)
@@ -450,17 +497,17 @@ fn place(
     surplus(set, d, w, n)
 }
 
-// The next mandatory segment that a missing trailer passes over.
-fn trailer(guide: &[[u16; 6]], w: Walk, k: usize) -> Step
-    ensures { λ r. ⌜ r ≡ steps.trailerStep (now (guide .entry)) w k ⌝ }
+// The next mandatory segment that a missing trailer passes over, from row k on and before row `end`.
+fn trailer(guide: &[[u16; 6]], w: Walk, k: usize, end: usize) -> Step
+    ensures { λ r. ⌜ r ≡ steps.trailerStep (now (guide .entry)) w k end ⌝ }
 {
-    let last = tables::reach(guide, k, &rules::SE);
-    let missing = tables::next_mandatory(guide, k, last);
-    if missing < last && missing < guide.len() {
-        let line = absent(guide, missing, bumped(w.position));
-        return Step::Segment(line, to(w, Phase::Trailer(missing + 1)));
+    match next_missing(guide, k, end) {
+        Missing::Row(row) => {
+            let line = absent(guide, row, bumped(w.hand.position));
+            Step::Segment(line, to(w, Phase::Trailer(row + 1, end)))
+        }
+        Missing::Nothing => Step::Done,
     }
-    Step::Done
 }
 
 // The next step of the walk of a set, with or without its trailer, through the table of a guide.
@@ -476,10 +523,11 @@ pub fn next(
 {
     let phase = w.phase;
     match phase {
+        Phase::Header => header(set, d, w),
         Phase::Read => read(set, d, directory, guide, closed, w),
         Phase::Passing(k) => pass(set, d, guide, w, k),
         Phase::Place(k, n, told) => place(set, d, guide, w, k, n, told),
-        Phase::Trailer(k) => trailer(guide, w, k),
+        Phase::Trailer(k, end) => trailer(guide, w, k, end),
     }
 }
 
@@ -493,30 +541,47 @@ fn again(guide: &[[u16; 6]], k: usize, used: usize) -> Turn
     Turn::Quiet(k, used)
 }
 
-// What a segment with this id comes to, at the present entry and its uses.
-fn turn_of(id: &[u8], directory: &[[u8; 3]], guide: &[[u16; 6]], entry: usize, used: usize) -> Turn
-    ensures { λ r. ⌜ r ≡ turns.turnOf (now (directory .entry)) (now (guide .entry)) entry used (now (id .entry)) ⌝ }
+// A mandatory segment stands from row `from` on and before row `end`.
+fn misses_any(guide: &[[u16; 6]], from: usize, end: usize) -> bool
+    ensures { λ r. ⌜ r ≡ turns.isMissing (steps.nextMissing (now (guide .entry)) from end) ⌝ }
 {
-    if !tables::is_known(id, directory) {
-        return Turn::Noted;
+    match next_missing(guide, from, end) {
+        Missing::Row(row) => true,
+        Missing::Nothing => false,
     }
-    if tables::is_entry(guide, entry, id) {
-        return again(guide, entry, bumped(used));
-    }
-    let next = tables::next_in_order(guide, bumped(entry), id);
-    if next < guide.len() {
-        return Turn::Quiet(next, 1);
-    }
-    Turn::Noted
 }
 
-// A missing trailer passes over a mandatory segment from row k on.
-fn passes_any(guide: &[[u16; 6]], k: usize) -> bool
-    ensures { λ r. ⌜ r ≡ turns.passesAny (now (guide .entry)) k ⌝ }
+// The first use of the entry in row k, which passes over those from row `from` on.
+fn anew(guide: &[[u16; 6]], from: usize, k: usize) -> Turn
+    ensures { λ r. ⌜ r ≡ turns.usedAnew (now (guide .entry)) from k ⌝ }
 {
-    let last = tables::reach(guide, k, &rules::SE);
-    let missing = tables::next_mandatory(guide, k, last);
-    missing < last && missing < guide.len()
+    if misses_any(guide, from, k) {
+        return Turn::Noted;
+    }
+    Turn::Quiet(k, 1)
+}
+
+// What a segment with this id comes to, at the present entry and its uses.
+fn turn_of(id: &[u8], directory: &[[u8; 3]], guide: &[[u16; 6]], present: Present) -> Turn
+    ensures { λ r. ⌜ r ≡ turns.turnOf (now (directory .entry)) (now (guide .entry)) present (now (id .entry)) ⌝ }
+{
+    let row = present.row;
+    match stands(id, directory, guide, row) {
+        Standing::Again => again(guide, row, bumped(present.used)),
+        Standing::Later(k) => anew(guide, bumped(row), k),
+        _ => Turn::Noted,
+    }
+}
+
+// A missing trailer passes over a mandatory segment.
+fn passes_any(directory: &[[u8; 3]], guide: &[[u16; 6]], present: Present) -> bool
+    ensures { λ r. ⌜ r ≡ turns.passesAny (now (directory .entry)) (now (guide .entry)) present ⌝ }
+{
+    let row = present.row;
+    match stands(&rules::SE, directory, guide, row) {
+        Standing::Later(end) => misses_any(guide, bumped(row), end),
+        _ => false,
+    }
 }
 
 // The walk of a set tells anything of it.
@@ -529,23 +594,28 @@ pub fn is_noted(
 ) -> bool
     ensures { λ r. ⌜ r ≡ not (null (rest.events (rest.left (now (set .entry)) d (now (directory .entry)) (now (guide .entry)) closed steps.start))) ⌝ }
 {
-    let mut at = 0;
-    let mut entry = 0;
-    let mut used = 0;
+    if set.len() == 0 {
+        return false;
+    }
+    let header = text::find(set, 0, d.terminator);
+    if !elements::is_clean(&set[..header], d, guide, 0) {
+        return true;
+    }
+    let mut at = header + 1;
+    let mut present = Present { row: 0, used: 1 };
     while at < set.len() {
         let end = text::find(set, at, d.terminator);
         let segment = &set[at..end];
         let id = segments::id(segment, d.element);
-        match turn_of(id, directory, guide, entry, used) {
+        match turn_of(id, directory, guide, present) {
             Turn::Noted => {
                 return true;
             }
             Turn::Quiet(k, uses) => {
-                entry = k;
-                used = uses;
+                present = Present { row: k, used: uses };
             }
         }
-        if !elements::is_clean(segment, d, guide, entry) {
+        if !elements::is_clean(segment, d, guide, present.row) {
             return true;
         }
         at = end + 1;
@@ -553,5 +623,5 @@ pub fn is_noted(
     if closed {
         return false;
     }
-    passes_any(guide, bumped(entry))
+    passes_any(directory, guide, present)
 }

@@ -67,10 +67,8 @@ use Rattle.tables.proofs.most_uses.Reads as tables-most-uses
 use Rattle.tables.proofs.element_at.Reads as tables-element-at
 use Rattle.tables.proofs.relation_at.Reads as tables-relation-at
 use Rattle.tables.proofs.places_at.Reads as tables-places-at
-use Rattle.tables.proofs.is_entry.Reads as tables-is-entry
 use Rattle.tables.proofs.reach.Reads as tables-reach
 use Rattle.tables.proofs.next_mandatory.Reads as tables-next-mandatory
-use Rattle.tables.proofs.next_in_order.Reads as tables-next-in-order
 use Rattle.tables.proofs.has_values.Reads as tables-has-values
 use Rattle.tables.proofs.is_listed.Reads as tables-is-listed
 use Rattle.tables.proofs.id_at.Reads as tables-id-at
@@ -317,17 +315,11 @@ tables-relation-at-once = ((λ κs a. tt), λ κs a r₁ r₂ s₁ s₂ p q. p �
 tables-places-at-once : Determined tables-places-at.Pre tables-places-at.Post (λ κs r s. r)
 tables-places-at-once = ((λ κs a. tt), λ κs a r₁ r₂ s₁ s₂ p q. p ∙ sym q)
 
-tables-is-entry-once : Determined tables-is-entry.Pre tables-is-entry.Post (λ κs r s. r)
-tables-is-entry-once = ((λ κs a. tt), λ κs a r₁ r₂ s₁ s₂ p q. p ∙ sym q)
-
 tables-reach-once : Determined tables-reach.Pre tables-reach.Post (λ κs r s. r)
 tables-reach-once = ((λ κs a. tt), λ κs a r₁ r₂ s₁ s₂ p q. p ∙ sym q)
 
 tables-next-mandatory-once : Determined tables-next-mandatory.Pre tables-next-mandatory.Post (λ κs r s. r)
 tables-next-mandatory-once = ((λ κs a. tt), λ κs a r₁ r₂ s₁ s₂ p q. p ∙ sym q)
-
-tables-next-in-order-once : Determined tables-next-in-order.Pre tables-next-in-order.Post (λ κs r s. r)
-tables-next-in-order-once = ((λ κs a. tt), λ κs a r₁ r₂ s₁ s₂ p q. p ∙ sym q)
 
 tables-has-values-once : Determined tables-has-values.Pre tables-has-values.Post (λ κs r s. r)
 tables-has-values-once = ((λ κs a. tt), λ κs a r₁ r₂ s₁ s₂ p q. p ∙ sym q)

@@ -1,18 +1,18 @@
 -- The response to an interchange of at most 65,536 bytes, refused or not, has less than 2^40 bytes, over tables within a named limit.
-use Prim.Native.Nat.{ℕ, _+_, _*_, _≤_, _<_}
+use Prim.Native.Nat.{ℕ, zero, suc, _+_, _*_, _≤_, _<_}
 use mathlib.Core.Path.{_≡_, refl}
 use mathlib.Core.Bool.{Bool, true, false, _&&_, _||_, not}
-use mathlib.Core.List.{List, [], _∷_, map}
+use mathlib.Core.List.{List, [], _∷_, _++_, map}
 use mathlib.Core.Option.{Option, none, some}
 use native.Mathlib.Omega.{arith}
 use lib.Dec.{leb, ltb, eqb}
-use lib.ListN.{length, drop, getD, length-append, length-map}
+use lib.ListN.{length, take, drop, getD, length-append, length-map}
 use borrow.Author.Tests.{leb-true}
 use Rattle.rules.specs.Base.{Bytes, Rule, _⇒_, every, null, all, keep, front, last, isNone, listed, isUpperOrDigit, ascii, same, member, if_then_else_}
 use Rattle.rules.specs.Cutting.{Segment, field, delimiters, cutAt, split, pieces, segments}
 use Rattle.rules.specs.Tables.{Row, Syntax, Entry, Table, editionTable, setTable, table006010, table004010, stRows, stRows6, seRows, b1Rows, l11Rows, k1Rows}
 use Rattle.rules.specs.Elements.{placeCodes, findingsFrom, findings}
-use Rattle.rules.specs.Segments.{Note, Place, Standing, unknown, unlisted, before, again, later, over, reach, behind, onward, against, standing, ownCode, moved, checkedBy, findingsBy, skipped, missing, echoed, noted, segmentNote, walk, notesOf}
+use Rattle.rules.specs.Segments.{Note, Present, Standing, unknown, unlisted, before, again, later, noEntry, entryAt, standing, ownCode, moved, findingsBy, skipped, missing, echoed, noted, segmentNote, walk, notesOf}
 use Rattle.rules.specs.Sets.{Set, isST, isSE, bodyOf, trailerOf, setsOf, segmentsOf, controlOf, notesIn, setCodes, setReport}
 use Rattle.rules.specs.Groups.{Group, isGE, groupWith, groupOf, supported, edition, tableIn, setReports, groupCodes, verdict, acceptedIn, groupReport}
 use Rattle.rules.specs.Response.{fieldsOut, segmentOut, out, ak3s, block, blocks, stOut, seOut, told, transactionSet, geOut, ieaOut, respond, response}
@@ -53,60 +53,33 @@ tableIn-limited gs s =
     (either P (same (field (s .header) 1) (ascii "990")) (editionTable-limited (edition gs)) (omega arith))
     (omega arith)
 
--- 2. How a segment stands to a limited table.
-rest-load : (es : List Entry) → load (drop 1 es) ≤ load es
+-- 2. The entries that a segment passes over, and the one that it is checked by.
+drop-load : (k : ℕ) (es : List Entry) → load (drop k es) ≤ load es
 unfolding load
-rest-load [] = omega arith
-rest-load (e ∷ es) = omega arith
+drop-load zero es = omega arith
+drop-load (suc k) [] = omega arith
+drop-load (suc k) (e ∷ es) = omega (arith, drop-load k es)
 
-over-reach : (id : Bytes) (es : List Entry) → load (over id es) + load (reach id es) ≤ load es
-unfolding over reach load
-over-reach id [] = omega arith
-over-reach id (e ∷ es) = pick (same (e .id) id) (over-reach id es)
-  where
-    pick : (b : Bool) → load (over id es) + load (reach id es) ≤ load es
-        → load (if b then [] else e ∷ over id es) + load (if b then e ∷ es else reach id es) ≤ load (e ∷ es)
-    pick true h = omega arith
-    pick false h = omega arith
-
--- the entries that a standing names
-abbrev held : Standing → ℕ
-held unknown = 0
-held unlisted = 0
-held (before e) = load (e ∷ [])
-held (again e) = load (e ∷ [])
-held (later passed e es) = load passed + load (e ∷ es)
-
-behind-held : (es : List Entry) → held (behind es) ≤ load es
+take-load : (k : ℕ) (es : List Entry) → load (take k es) ≤ load es
 unfolding load
-behind-held [] = omega arith
-behind-held (e ∷ es) = omega arith
+take-load zero es = omega arith
+take-load (suc k) [] = omega arith
+take-load (suc k) (e ∷ es) = omega (arith, take-load k es)
 
-onward-held : (passed es : List Entry) (st : Standing) → load passed + load es ≤ limit → held st ≤ limit → held (onward passed es st) ≤ limit
-onward-held passed [] st h k = k
-onward-held passed (e ∷ es) st h k = h
+skipped-load : (t : Table) (p : Present) (st : Standing) → load (skipped t p st) ≤ load (t .entries)
+unfolding load
+skipped-load t p unknown = omega arith
+skipped-load t p unlisted = omega arith
+skipped-load t p (before k) = omega arith
+skipped-load t p (again k) = omega arith
+skipped-load t p (later k) = omega (arith, drop-load (p .index + 1) (take k (t .entries)), take-load k (t .entries))
 
-standing-held : (t : Table) (p : Place) (id : Bytes) → Limited t → load (p .ahead) ≤ limit → held (standing t p id) ≤ limit
-unfolding standing against load
-standing-held t p id h k =
-    either (λ (st : Standing). held st ≤ limit) (member id (t .directory)) (against-held (p .ahead) k) (omega arith)
-  where
-    first-held : held (behind (reach id (t .entries))) ≤ limit
-    first-held = omega (arith, behind-held (reach id (t .entries)), over-reach id (t .entries))
-
-    against-held : (es : List Entry) → load es ≤ limit → held (against (t .entries) es id) ≤ limit
-    against-held [] k = first-held
-    against-held (e ∷ es) k =
-        either (λ (st : Standing). held st ≤ limit) (same (e .id) id)
-        (omega arith)
-        (onward-held (over id es) (reach id es) (behind (reach id (t .entries))) (omega (arith, over-reach id es)) first-held)
-
-moved-held : (st : Standing) (p : Place) → held st ≤ limit → load (p .ahead) ≤ limit → load (moved st p .ahead) ≤ limit
-moved-held unknown p h k = k
-moved-held unlisted p h k = k
-moved-held (before e) p h k = k
-moved-held (again e) p h k = k
-moved-held (later passed e es) p h k = omega arith
+entry-rows : (k : ℕ) (es : List Entry) → length (getD es k noEntry .rows) ≤ load es
+unfolding load
+entry-rows zero [] = omega arith
+entry-rows (suc k) [] = omega arith
+entry-rows zero (e ∷ es) = omega arith
+entry-rows (suc k) (e ∷ es) = omega (arith, entry-rows k es)
 
 -- 3. The notes of a set.
 placeCodes-short : (d : Delimiters) (notes : List Syntax) (s : Segment) (r : Row) (n : ℕ) → length (placeCodes d notes s r n) ≤ 4
@@ -121,14 +94,17 @@ findingsFrom-short d notes s n [] =
 findingsFrom-short d notes s n (r ∷ rs) =
     simp (length-append, length-map) (omega (arith, placeCodes-short d notes s r n, findingsFrom-short d notes s (n + 1) rs))
 
--- 50 bytes for each entry passed over and byte of its id, and 67 for each finding
-standing-short : (d : Delimiters) (st : Standing) (s : Segment) → 50 * load (skipped st) + 67 * length (findingsBy d (checkedBy st) s) ≤ 268 * held st + 67
-unfolding findings load
-standing-short d unknown s = omega arith
-standing-short d unlisted s = omega arith
-standing-short d (before e) s = omega (arith, findingsFrom-short d (e .notes) s 1 (e .rows))
-standing-short d (again e) s = omega (arith, findingsFrom-short d (e .notes) s 1 (e .rows))
-standing-short d (later passed e es) s = omega (arith, findingsFrom-short d (e .notes) s 1 (e .rows))
+entry-short : (d : Delimiters) (t : Table) (k : ℕ) (s : Segment) → length (findings d (entryAt t k) s) ≤ 4 * load (t .entries) + 1
+unfolding findings
+entry-short d t k s =
+    omega (arith, findingsFrom-short d (entryAt t k .notes) s 1 (entryAt t k .rows), entry-rows k (t .entries))
+
+findingsBy-short : (d : Delimiters) (t : Table) (st : Standing) (s : Segment) → length (findingsBy d t st s) ≤ 4 * load (t .entries) + 1
+findingsBy-short d t unknown s = omega arith
+findingsBy-short d t unlisted s = omega arith
+findingsBy-short d t (before k) s = entry-short d t k s
+findingsBy-short d t (again k) s = entry-short d t k s
+findingsBy-short d t (later k) s = entry-short d t k s
 
 echoed-short : (id : Bytes) → length (echoed id) ≤ 3
 unfolding echoed
@@ -142,7 +118,7 @@ echoed-short id = pick (leb 2 (length id)) (leb (length id) 3) (all isUpperOrDig
 
 -- what a segment of a set can cause, in bytes
 abbrev perSegment : ℕ
-perSegment = 1100000
+perSegment = 1310000
 
 module _ (d : Delimiters) where
   missing-short : (n : ℕ) (es : List Entry) → length (out d (ak3s (missing n es))) ≤ 50 * load es
@@ -172,30 +148,30 @@ module _ (d : Delimiters) where
       noted-short (echoed id) n (every rules) fs (echoed-short id) (every-short rules)
 
   module _ (t : Table) (limited : Limited t) (closed : Bool) where
-    walk-short : (p : Place) → load (p .ahead) ≤ limit → (n : ℕ) (ss : List Segment)
-        → length (out d (ak3s (walk d t closed p n ss))) ≤ perSegment * (length ss + 1)
+    -- 50 bytes for each entry passed over and byte of its id, and 67 for each finding
+    walk-short : (p : Present) (n : ℕ) (ss : List Segment) → length (out d (ak3s (walk d t closed p n ss))) ≤ perSegment * (length ss + 1)
     unfolding walk out ak3s
-    walk-short p h n [] =
-        let rest = drop 1 (p .ahead) in
+    walk-short p n [] =
+        let st = standing t p (ascii "SE") in
         either (λ (ns : List Note). length (out d (ak3s ns)) ≤ perSegment) closed
         (omega arith)
-        (omega (arith, missing-short n (over (ascii "SE") rest), over-reach (ascii "SE") rest, rest-load (p .ahead)))
-    walk-short p h n (s ∷ ss) =
+        (omega (arith, missing-short n (skipped t p st), skipped-load t p st))
+    walk-short p n (s ∷ ss) =
         let st = standing t p (field s 0) in
-        let k : held st ≤ limit = standing-held t p (field s 0) limited h in
         simp ak3s-append
         (omega (
           arith,
-          missing-short n (skipped st),
-          segmentNote-short n (ownCode st (p .used)) (field s 0) (findingsBy d (checkedBy st) s),
-          standing-short d st s,
-          walk-short (moved st p) (moved-held st p k h) (n + 1) ss,
+          missing-short n (skipped t p st),
+          skipped-load t p st,
+          segmentNote-short n (ownCode t p st) (field s 0) (findingsBy d t st s),
+          findingsBy-short d t st s,
+          walk-short (moved p st) (n + 1) ss,
         ))
 
 -- 4. The sets of a group.
 -- what a set can cause besides: it has two segments more than its body, and may lack its trailer
 abbrev perSet : ℕ
-perSet = 3300300
+perSet = 3930300
 
 listed-short : (o : Option Segment) → length (listed o) ≤ 1
 listed-short none = omega arith
@@ -206,12 +182,15 @@ module _ (d : Delimiters) where
   unfolding notesOf ak3s out
   notesIn-short none h s = omega arith
   notesIn-short (some t) h s =
-      omega (
+      simp ak3s-append
+      (omega (
         arith,
-        walk-short d t h (not (isNone (s .trailer))) (record { ahead = t .entries; used = 0 }) h 1 (segmentsOf s),
+        segmentNote-short d 1 0 (field (s .header) 0) (findings d (entryAt t 0) (s .header)),
+        entry-short d t 0 (s .header),
+        walk-short d t h (not (isNone (s .trailer))) (record { index = 0; used = 1 }) 2 (s .body ++ listed (s .trailer)),
         length-append (s .body) (listed (s .trailer)),
         listed-short (s .trailer),
-      )
+      ))
 
   setCodes-short : (t : Option Table) (ns : List Note) (earlier : List Bytes) (s : Set) → length (setCodes t ns earlier s) ≤ 6
   unfolding setCodes

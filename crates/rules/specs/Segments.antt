@@ -1,13 +1,14 @@
 -- "Notes on segments (AK3)": the walk of a set through its table.
 use Prim.Native.Nat.{ℕ, _+_}
-use mathlib.Core.Bool.{Bool, true, false, _&&_, _||_, not}
+use mathlib.Core.Bool.{Bool, true, false, _&&_, not}
 use mathlib.Core.List.{List, [], _∷_, _++_, map}
 use mathlib.Core.Option.{Option, none, some}
 use lib.Dec.{ltb, eqb}
-use lib.ListN.{length, drop}
+use lib.ListN.{length, getD}
+use lib.Seq.{slice}
 use Rattle.rules.specs.Base.{Bytes, Rule, _⇒_, every, null, all, between, isUpperOrDigit, ascii, same, member, keep, if_then_else_}
 use Rattle.rules.specs.Cutting.{Segment, field}
-use Rattle.rules.specs.Tables.{Entry, Table}
+use Rattle.rules.specs.Tables.{Entry, Table, entry, O}
 use Rattle.rules.specs.Elements.{findings}
 use Rattle.rules.specs.declared.Delimiters.{Delimiters}
 use Rattle.rules.specs.declared.Finding.{Finding}
@@ -19,82 +20,69 @@ pub record Note : Type 0 where
   pub codes : List ℕ
   pub findings : List Finding
 
--- where in its table a set has come to: the entries from the present one on, and how often that one has been used
-pub record Place : Type 0 where
-  pub ahead : List Entry
+-- where in its table a set has come to: the index of the present entry, and how often that has been used
+pub record Present : Type 0 where
+  pub index : ℕ
   pub used : ℕ
 
--- how a segment stands to the table and the present place
+-- how a segment stands to the table and the present entry
 pub data Standing : Type 0 where
   -- not in the directory; in it, but not in the table
   unknown unlisted : Standing
-  -- before the present place; at it
-  before again : Entry → Standing
-  -- later: the entries passed over, its own, and those after it
-  later : List Entry → Entry → List Entry → Standing
+  -- its entry, by the index, is before the present one; is the present one; is later
+  before again later : ℕ → Standing
 
--- the entries before the one with this id
-unfoldable pub over : Bytes → List Entry → List Entry
-over id [] = []
-over id (e ∷ es) = let r = over id es in if same (e .id) id then [] else e ∷ r
+-- the entry at an index, with nothing in it past the last
+abbrev pub noEntry : Entry
+noEntry = entry [] O 0 [] []
 
--- the entries from the one with this id on, none where there is no such entry
-unfoldable pub reach : Bytes → List Entry → List Entry
-reach id [] = []
-reach id (e ∷ es) = let r = reach id es in if same (e .id) id then e ∷ es else r
+abbrev pub entryAt : Table → ℕ → Entry
+entryAt t k = getD (t .entries) k noEntry
 
-abbrev pub behind : List Entry → Standing
-behind [] = unlisted
-behind (e ∷ es) = before e
+-- the index of the entry with this id, counted from k on
+unfoldable pub indexFrom : ℕ → Bytes → List Entry → Option ℕ
+indexFrom k id [] = none
+indexFrom k id (e ∷ es) = let r = indexFrom (k + 1) id es in if same (e .id) id then some k else r
 
-abbrev pub onward : List Entry → List Entry → Standing → Standing
-onward passed [] s = s
-onward passed (e ∷ es) s = later passed e es
+-- which of two entries comes first, the present one or the one at this index
+abbrev pub compared : ℕ → Option ℕ → Standing
+compared present none = unlisted
+compared present (some k) = if ltb k present then before k else (if eqb k present then again k else later k)
 
--- where the present entry is the first of those ahead
-unfoldable pub against : List Entry → List Entry → Bytes → Standing
-against entries [] id = behind (reach id entries)
-against entries (e ∷ es) id =
-    if same (e .id) id then again e else onward (over id es) (reach id es) (behind (reach id entries))
-
-unfoldable pub standing : Table → Place → Bytes → Standing
-standing t p id = if member id (t .directory) then against (t .entries) (p .ahead) id else unknown
+unfoldable pub standing : Table → Present → Bytes → Standing
+standing t p id = if member id (t .directory) then compared (p .index) (indexFrom 0 id (t .entries)) else unknown
 
 -- the code of the standing itself, 0 for none
-abbrev pub ownCode : Standing → ℕ → ℕ
-ownCode unknown used = 1
-ownCode unlisted used = 6
-ownCode (before e) used = 7
-ownCode (again e) used = if ltb (e .most) (used + 1) then 5 else 0
-ownCode (later passed e es) used = 0
+abbrev pub ownCode : Table → Present → Standing → ℕ
+ownCode t p unknown = 1
+ownCode t p unlisted = 6
+ownCode t p (before k) = 7
+ownCode t p (again k) = if ltb (entryAt t k .most) (p .used + 1) then 5 else 0
+ownCode t p (later k) = 0
 
--- the place after a segment: it stays, counts one use more, or moves
-abbrev pub moved : Standing → Place → Place
-moved unknown p = p
-moved unlisted p = p
-moved (before e) p = p
-moved (again e) p = record { ahead = p .ahead; used = p .used + 1 }
-moved (later passed e es) p = record { ahead = e ∷ es; used = 1 }
+-- the present entry after a segment: it stays, has one use more, or is the segment's own, used once
+abbrev pub moved : Present → Standing → Present
+moved p unknown = p
+moved p unlisted = p
+moved p (before k) = p
+moved p (again k) = record { index = k; used = p .used + 1 }
+moved p (later k) = record { index = k; used = 1 }
 
--- the entry by which the elements are checked
-abbrev pub checkedBy : Standing → Option Entry
-checkedBy unknown = none
-checkedBy unlisted = none
-checkedBy (before e) = some e
-checkedBy (again e) = some e
-checkedBy (later passed e es) = some e
+-- the entries that a segment passes over: those between the present one and its own
+abbrev pub skipped : Table → Present → Standing → List Entry
+skipped t p unknown = []
+skipped t p unlisted = []
+skipped t p (before k) = []
+skipped t p (again k) = []
+skipped t p (later k) = slice (p .index + 1) k (t .entries)
 
-abbrev pub findingsBy : Delimiters → Option Entry → Segment → List Finding
-findingsBy d none s = []
-findingsBy d (some e) s = findings d e s
-
--- the entries that a segment passes over
-abbrev pub skipped : Standing → List Entry
-skipped unknown = []
-skipped unlisted = []
-skipped (before e) = []
-skipped (again e) = []
-skipped (later passed e es) = passed
+-- what is found in the elements, by the segment's entry; nothing where it has none
+abbrev pub findingsBy : Delimiters → Table → Standing → Segment → List Finding
+findingsBy d t unknown s = []
+findingsBy d t unlisted s = []
+findingsBy d t (before k) s = findings d (entryAt t k) s
+findingsBy d t (again k) s = findings d (entryAt t k) s
+findingsBy d t (later k) s = findings d (entryAt t k) s
 
 -- one AK3 at position n for each mandatory entry passed over
 unfoldable pub missing : ℕ → List Entry → List Note
@@ -114,15 +102,17 @@ noted id n (c ∷ cs) fs = record { id = id; position = n; codes = c ∷ cs; fin
 unfoldable pub segmentNote : ℕ → ℕ → Bytes → List Finding → List Note
 segmentNote n c id fs = noted (echoed id) n (every ((not (eqb c 0) ⇒ c) ∷ (not (null fs) ⇒ 8) ∷ [])) fs
 
--- the AK3 of the segments from position n on; a missing trailer passes over what lies before SE
-unfoldable pub walk : Delimiters → Table → Bool → Place → ℕ → List Segment → List Note
-walk d t closed p n [] = if closed then [] else missing n (over (ascii "SE") (drop 1 (p .ahead)))
+-- the AK3 of the segments from position n on; a missing trailer passes over what lies before SE, and has no note itself
+unfoldable pub walk : Delimiters → Table → Bool → Present → ℕ → List Segment → List Note
+walk d t closed p n [] = if closed then [] else missing n (skipped t p (standing t p (ascii "SE")))
 walk d t closed p n (s ∷ ss) =
     let st = standing t p (field s 0) in
-    missing n (skipped st)
-    ++ segmentNote n (ownCode st (p .used)) (field s 0) (findingsBy d (checkedBy st) s)
-    ++ walk d t closed (moved st p) (n + 1) ss
+    missing n (skipped t p st)
+    ++ segmentNote n (ownCode t p st) (field s 0) (findingsBy d t st s)
+    ++ walk d t closed (moved p st) (n + 1) ss
 
--- all AK3 of a set: it starts at the table's first entry, ST, and its header is the first use of that
-unfoldable pub notesOf : Delimiters → Table → Bool → List Segment → List Note
-notesOf d t closed ss = walk d t closed (record { ahead = t .entries; used = 0 }) 1 ss
+-- all AK3 of a set: its header, at position 1, is the first use of the table's first entry, ST; the walk goes on from there
+unfoldable pub notesOf : Delimiters → Table → Bool → Segment → List Segment → List Note
+notesOf d t closed header after =
+    segmentNote 1 0 (field header 0) (findings d (entryAt t 0) header)
+    ++ walk d t closed (record { index = 0; used = 1 }) 2 after

@@ -65,7 +65,7 @@ pub record SetReport : Type 0 where
 -- a set that is not supported has no table, and no AK3
 abbrev pub notesIn : Delimiters → Option Table → Set → List Note
 notesIn d none s = []
-notesIn d (some t) s = notesOf d t (not (isNone (s .trailer))) (segmentsOf s)
+notesIn d (some t) s = notesOf d t (not (isNone (s .trailer))) (s .header) (s .body ++ listed (s .trailer))
 
 -- the codes of AK5; earlier are the ST02 of the sets before it
 unfoldable pub setCodes : Option Table → List Note → List Bytes → Set → List ℕ

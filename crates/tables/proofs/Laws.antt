@@ -8,7 +8,7 @@ use native.Mathlib.Numerals.{add-one}
 use native.Mathlib.Omega.{arith}
 use borrow.Author.Tests.{ne-eqb, eqb-true, ltb-true, ltb-false}
 use lib.Dec.{eqb, ltb, lit<}
-use lib.ListN.{length, getD, take, drop, drop-of-length-le, List·getD-eq-default}
+use lib.ListN.{length, getD, take, drop, drop-of-length-le}
 use lib.Seq.{drop-cons, getD-drop, getD-take}
 use Rattle.rules.specs.Base.{Bytes, same, null, all, any, member, if_then_else_}
 use Rattle.tables.specs.Rows.{column, isRow, filled, codesIn, rowsIn, syntaxIn}
@@ -107,12 +107,6 @@ module _ (rows : Guide) (k : ℕ) where
   pub listed-end : (value : Bytes) → isRow 3 (getD rows k []) ≡ false → member value (codesAt rows k) ≡ false
   unfolding any
   listed-end value e = rw (codes-stop e)
-
-  -- past the end an id has no bytes
-  pub id-past : (id : Bytes) → length rows ≤ k → eqb (length id) 0 ≡ same (entryAt rows k .id) id
-  unfolding filled same
-  id-past [] h = rw (List·getD-eq-default rows [] {n = k} h)
-  id-past (b ∷ id) h = rw (List·getD-eq-default rows [] {n = k} h, ne-eqb (suc (length id)) 0 (λ e. omega arith))
 
   pub codes-any : not (null (codesAt rows k)) ≡ isRow 3 (getD rows k [])
   codes-any = go (isRow 3 (getD rows k [])) refl

@@ -66,20 +66,13 @@ isEntryRow id r = isRow 1 r && same (filled (idIn r)) id
 abbrev pub isMandatoryRow : List ℕ → Bool
 isMandatoryRow r = isRow 1 r && eqb (column r 4) 1
 
--- the first segment row from k on with this id
-unfoldable pub reachFrom : Guide → ℕ → Bytes → ℕ
-reachFrom rows k id = nextWhere (isEntryRow id) rows k
+-- the first segment row with this id, the number of rows where there is none
+unfoldable pub entryRow : Guide → Bytes → ℕ
+entryRow rows id = nextWhere (isEntryRow id) rows 0
 
 -- the first mandatory segment row from k on and before end
 unfoldable pub nextMandatory : Guide → ℕ → ℕ → ℕ
 nextMandatory rows k end = nextWhere isMandatoryRow (take end rows) k
-
--- the first segment row from k on with this id, where no mandatory one stands before it; the number of rows where one does
-unfoldable pub nextInOrder : Guide → ℕ → Bytes → ℕ
-nextInOrder rows k id =
-    let r = reachFrom rows k id in
-    let m = nextMandatory rows k r in
-    if ltb m r && ltb m (length rows) then length rows else r
 
 -- the id of row k by value, of a number above 255 its low byte, and the bytes that such an id stands for
 unfoldable pub idAt : Guide → ℕ → SegmentId

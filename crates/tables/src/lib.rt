@@ -7,7 +7,7 @@ ghost use lib.ListN.{getD, drop};
 ghost use Rattle.rules.specs.Base.{same, member, null};
 ghost use Rattle.tables.specs.Rows.{isRow, filled, kindOf, relationOf, rowIs, idsIn};
 ghost use Rattle.text.specs.Text.{nextWhere, indexOf};
-ghost use Rattle.tables.specs.Reading.{entryAt, rowAt, noteAt, codesAt, idIn, isEntryRow, isMandatoryRow, reachFrom, nextMandatory, nextInOrder, idAt, rowBelow, elementRow, placesAt};
+ghost use Rattle.tables.specs.Reading.{entryAt, rowAt, noteAt, codesAt, idIn, isEntryRow, isMandatoryRow, entryRow, nextMandatory, idAt, rowBelow, elementRow, placesAt};
 use rules::Kind;
 use rules::Relation;
 
@@ -313,21 +313,11 @@ pub fn places_at(guide: &[[u16; 6]], k: usize) -> Places
     Places { numbers, count }
 }
 
-// The id of row k is these bytes.
-pub fn is_entry(guide: &[[u16; 6]], k: usize, id: &[u8]) -> bool
-    ensures { λ r. ⌜ r ≡ same (entryAt (now (guide .entry)) k .id) (now (id .entry)) ⌝ }
+// The row of the first segment with this id; the number of rows where there is none.
+pub fn reach(guide: &[[u16; 6]], id: &[u8]) -> usize
+    ensures { λ r. ⌜ r ≡ entryRow (now (guide .entry)) (now (id .entry)) ⌝ }
 {
-    if k < guide.len() {
-        return is_id(guide[k], id);
-    }
-    id.len() == 0
-}
-
-// The first segment with this id from row `from` on; the number of rows where there is none, and `from` where that is past the end.
-pub fn reach(guide: &[[u16; 6]], from: usize, id: &[u8]) -> usize
-    ensures { λ r. ⌜ r ≡ reachFrom (now (guide .entry)) from (now (id .entry)) ⌝ }
-{
-    let mut k = from;
+    let mut k = 0;
     while k < guide.len() {
         if is_entry_row(guide[k], id) {
             return k;
@@ -358,25 +348,6 @@ pub fn next_mandatory(guide: &[[u16; 6]], from: usize, end: usize) -> usize
         return mandatory_from(&guide[..end], from);
     }
     mandatory_from(guide, from)
-}
-
-// The first segment with this id from row `from` on, where no mandatory one stands before it; the number of rows where one does or
-// there is none, and `from` where that is past the end.
-pub fn next_in_order(guide: &[[u16; 6]], from: usize, id: &[u8]) -> usize
-    ensures { λ r. ⌜ r ≡ nextInOrder (now (guide .entry)) from (now (id .entry)) ⌝ }
-{
-    let mut k = from;
-    while k < guide.len() {
-        let row = guide[k];
-        if is_entry_row(row, id) {
-            return k;
-        }
-        if is_mandatory_row(row) {
-            return guide.len();
-        }
-        k += 1;
-    }
-    k
 }
 
 // The element of row k has code values.

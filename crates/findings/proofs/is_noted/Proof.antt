@@ -1,77 +1,74 @@
 -- `findings::is_noted` meets its contract.
-use borrow.Author.Needs.{needs}
 use borrow.Author.Tests.{not-true, not-false}
-use Prim.Native.Nat.{_-_}
+use Prim.Native.Nat.{_-_, _<_}
 use mathlib.Core.Path.{sym, _∙_}
-use lib.ListN.{length}
+use lib.ListN.{length, length-take}
 use Rattle.text.proofs.Search.{find-end}
-use Rattle.findings.proofs.Turns.{Decides, from-start, turn-noted, turn-faulty, turn-clean, ends-closed, ends-open}
+use Rattle.findings.proofs.Turns.{Decides, none-told, header-faulty, header-clean, turn-noted, turn-faulty, turn-clean, ends-closed, ends-open}
 use native.Mathlib.Omega.{arith}
+use borrow.Author.Needs.{needs}
 use Rattle.findings.proofs.is_noted.Statement.{statement}
 use Rattle.findings.proofs.is_noted.Tie as tie
 
 abbrev Inv-loop : tie.InvT-loop
-Inv-loop set d directory guide closed at₀ entry₀ used₀ at entry used = Decides set d directory guide closed at entry used
+Inv-loop set d directory guide closed header at₀ present₀ at present = Decides set d directory guide closed at present
 
 abbrev μ-loop : tie.MeasureT-loop
-μ-loop set d directory guide closed at₀ entry₀ used₀ at entry used = length set - at
+μ-loop set d directory guide closed header at₀ present₀ at present = length set - at
 
-loop-holds : tie.Need-loop-holds Inv-loop μ-loop
-loop-holds c = from-start _ _ _ _ _
-
-find-requires : tie.Need-find-requires Inv-loop μ-loop
-find-requires c κs = search needs
-
-sub-segment : tie.Need-sub-segment Inv-loop μ-loop
-sub-segment c = search needs
-
-part-segment-start : tie.Need-part-segment-start Inv-loop μ-loop
-part-segment-start c = search needs
-
-part-segment-end : tie.Need-part-segment-end Inv-loop μ-loop
-part-segment-end c = find-end _ _ _ _ (c .find .ensures) (c .before .loop-test .taken)
-
-id-requires : tie.Need-id-requires Inv-loop μ-loop
-id-requires c κs = search needs
-
-turn-of-requires : tie.Need-turn-of-requires Inv-loop μ-loop
-turn-of-requires c κs = search needs
-
-enum-told : tie.Need-enum-told Inv-loop μ-loop
-enum-told c = search needs
+-- there is a header
+some : (c : tie.Else1 Inv-loop μ-loop) → 0 < length (c .before .before .args .set .now)
+some c = omega arith
 
 returns : tie.Need-returns Inv-loop μ-loop
-returns c = rw (turn-noted _ _ _ _ _ (c .before .before .before .before .before .before .before .loop .inv) (c .before .before .before .before .before .before .loop-test .taken) (c .before .before .before .before .before .find .ensures) (rw (c .before .before .before .id .ensures) at (sym (c .before .before .turn-of .ensures) ∙ c .enum-told .given .1)))
+returns c = rw (none-told _ _ _ _ _ (c .if1 .taken))
 
-enum-known-k : tie.Need-enum-known-k Inv-loop μ-loop
-enum-known-k c = search needs
-
-is-clean-requires : tie.Need-is-clean-requires Inv-loop μ-loop
-is-clean-requires c κs = search needs
+slice-aggregate-is-clean : tie.Need-slice-aggregate-is-clean Inv-loop μ-loop
+slice-aggregate-is-clean c = omega (arith, length-take (c .before .find .result) (c .before .before .before .before .args .set .now), find-end _ _ _ _ (c .before .find .ensures) (some (c .before .before)))
 
 returns-2 : tie.Need-returns-2 Inv-loop μ-loop
-returns-2 c = rw (turn-faulty _ _ _ _ _ (c .before .before .before .before .before .before .before .before .before .before .loop .inv) (c .before .before .before .before .before .before .before .before .before .loop-test .taken) (c .before .before .before .before .before .before .before .before .find .ensures) (rw (c .before .before .before .before .before .before .id .ensures) at (sym (c .before .before .before .before .before .turn-of .ensures) ∙ c .before .before .before .k .given .1)) (sym (c .before .is-clean .ensures) ∙ not-true (c .before .is-clean .result) (c .if1 .taken)))
+returns-2 c = rw (header-faulty _ _ _ _ _ (some (c .before .before .before .before)) (c .before .before .before .find .ensures) (sym (c .before .is-clean .ensures) ∙ not-true (c .before .is-clean .result) (c .if2 .taken)))
 
 add-at : tie.Need-add-at Inv-loop μ-loop
-add-at c = omega (arith, find-end _ _ _ _ (c .before .before .before .before .before .before .before .before .find .ensures) (c .before .before .before .before .before .before .before .before .before .loop-test .taken))
+add-at c = omega (arith, find-end _ _ _ _ (c .before .before .before .find .ensures) (some (c .before .before .before .before)))
 
-loop-less : tie.Need-loop-less Inv-loop μ-loop
-loop-less c = omega (arith, c .before .before .before .before .before .before .before .before .find .ensures)
+loop-holds : tie.Need-loop-holds Inv-loop μ-loop
+loop-holds c = header-clean _ _ _ _ _ (some (c .before .before .before .before)) (c .before .before .before .find .ensures) (sym (c .before .is-clean .ensures) ∙ not-false (c .before .is-clean .result) (c .if2 .left))
 
-loop-again : tie.Need-loop-again Inv-loop μ-loop
-loop-again c = turn-clean _ _ _ _ _ (c .before .before .before .before .before .before .before .before .before .before .loop .inv) (c .before .before .before .before .before .before .before .before .before .loop-test .taken) (c .before .before .before .before .before .before .before .before .find .ensures) (rw (c .before .before .before .before .before .before .id .ensures) at (sym (c .before .before .before .before .before .turn-of .ensures) ∙ c .before .before .before .k .given .1)) (sym (c .before .is-clean .ensures) ∙ not-false (c .before .is-clean .result) (c .if1 .left))
+part-segment-end : tie.Need-part-segment-end Inv-loop μ-loop
+part-segment-end c = find-end _ _ _ _ (c .find2 .ensures) (c .before .loop-test .taken)
 
 returns-3 : tie.Need-returns-3 Inv-loop μ-loop
-returns-3 c = rw (ends-closed _ _ _ _ _ (c .before .before .loop .inv) (c .before .loop-test .left) (c .if2 .taken))
-
-bumped-requires : tie.Need-bumped-requires Inv-loop μ-loop
-bumped-requires c κs = search needs
-
-passes-any-requires : tie.Need-passes-any-requires Inv-loop μ-loop
-passes-any-requires c κs = search needs
+returns-3 c =
+    let turn = c .before .before in
+    let found = turn .before .before .before in
+    rw (turn-noted _ _ _ _ _ (found .before .before .loop .inv) (found .before .loop-test .taken) (found .find2 .ensures) (rw (turn .before .id .ensures) at (sym (turn .turn-of .ensures) ∙ c .enum-told .given .1)))
 
 returns-4 : tie.Need-returns-4 Inv-loop μ-loop
-returns-4 c = rw (ends-open _ _ _ _ _ (c .before .before .before .before .loop .inv) (c .before .before .before .loop-test .left) (c .before .before .if2 .left), ← c .before .bumped .ensures) (c .passes-any .ensures)
+returns-4 c =
+    let turn = c .before .before .before .before .before in
+    let found = turn .before .before .before in
+    rw (turn-faulty _ _ _ _ _ (found .before .before .loop .inv) (found .before .loop-test .taken) (found .find2 .ensures) (rw (turn .before .id .ensures) at (sym (turn .turn-of .ensures) ∙ c .before .before .before .k .given .1)) (sym (c .before .is-clean2 .ensures) ∙ not-true (c .before .is-clean2 .result) (c .if3 .taken)))
+
+add-at-2 : tie.Need-add-at-2 Inv-loop μ-loop
+add-at-2 c =
+    let found = c .before .before .before .before .before .before .before .before in
+    omega (arith, find-end _ _ _ _ (found .find2 .ensures) (found .before .loop-test .taken))
+
+loop-less : tie.Need-loop-less Inv-loop μ-loop
+loop-less c = omega (arith, c .before .before .before .before .before .before .before .before .find2 .ensures)
+
+loop-again : tie.Need-loop-again Inv-loop μ-loop
+loop-again c =
+    let turn = c .before .before .before .before .before in
+    let found = turn .before .before .before in
+    turn-clean _ _ _ _ _ (found .before .before .loop .inv) (found .before .loop-test .taken) (found .find2 .ensures) (rw (turn .before .id .ensures) at (sym (turn .turn-of .ensures) ∙ c .before .before .before .k .given .1)) (sym (c .before .is-clean2 .ensures) ∙ not-false (c .before .is-clean2 .result) (c .if3 .left))
+
+returns-5 : tie.Need-returns-5 Inv-loop μ-loop
+returns-5 c = rw (ends-closed _ _ _ _ _ (c .before .before .loop .inv) (c .before .loop-test .left) (c .if4 .taken))
+
+returns-6 : tie.Need-returns-6 Inv-loop μ-loop
+returns-6 c = rw (ends-open _ _ _ _ _ (c .before .before .before .loop .inv) (c .before .before .loop-test .left) (c .before .if4 .left)) (c .passes-any .ensures)
 
 pub is-noted-spec : {M : Type 1} → statement M
 is-noted-spec =
@@ -79,22 +76,27 @@ is-noted-spec =
     (tie.spec
     Inv-loop
     μ-loop
-    loop-holds
-    find-requires
-    sub-segment
-    part-segment-start
-    part-segment-end
-    id-requires
-    turn-of-requires
-    enum-told
     returns
-    enum-known-k
-    is-clean-requires
+    (λ c κs. search needs)
+    slice-aggregate-is-clean
+    (λ c κs. search needs)
     returns-2
     add-at
+    loop-holds
+    (λ c κs. search needs)
+    (λ c. search needs)
+    (λ c. search needs)
+    part-segment-end
+    (λ c κs. search needs)
+    (λ c κs. search needs)
+    (λ c. search needs)
+    returns-3
+    (λ c. search needs)
+    (λ c κs. search needs)
+    returns-4
+    add-at-2
     loop-less
     loop-again
-    returns-3
-    bumped-requires
-    passes-any-requires
-    returns-4)
+    returns-5
+    (λ c κs. search needs)
+    returns-6)

@@ -4,36 +4,6 @@ use borrow.Author.Needs.{needs}
 use Rattle.findings.proofs.taken.Statement.{statement}
 use Rattle.findings.proofs.taken.Tie as tie
 
-enum-told : tie.Need-enum-told
-enum-told c = search needs
-
-stayed-requires : tie.Need-stayed-requires
-stayed-requires c κs = search needs
-
-enum-told-2 : tie.Need-enum-told-2
-enum-told-2 c = search needs
-
-stayed-requires-2 : tie.Need-stayed-requires-2
-stayed-requires-2 c κs = search needs
-
-enum-known-standing : tie.Need-enum-known-standing
-enum-known-standing c = search needs
-
-stayed-requires-3 : tie.Need-stayed-requires-3
-stayed-requires-3 c κs = search needs
-
-enum-told-3 : tie.Need-enum-told-3
-enum-told-3 c = search needs
-
-repeated-requires : tie.Need-repeated-requires
-repeated-requires c κs = search needs
-
-enum-known-standing-2 : tie.Need-enum-known-standing-2
-enum-known-standing-2 c = search needs
-
-moved-requires : tie.Need-moved-requires
-moved-requires c κs = search needs
-
 returns : tie.Need-returns
 unfolding steps.taken
 returns c = rw (c .before .enum-told .given .1) (c .stayed .ensures)
@@ -58,16 +28,16 @@ pub taken-spec : {M : Type 1} → statement M
 taken-spec =
     tie.close
     (tie.spec
-    enum-told
-    stayed-requires
-    enum-told-2
-    stayed-requires-2
-    enum-known-standing
-    stayed-requires-3
-    enum-told-3
-    repeated-requires
-    enum-known-standing-2
-    moved-requires
+    (λ c. search needs)
+    (λ c κs. search needs)
+    (λ c. search needs)
+    (λ c κs. search needs)
+    (λ c. search needs)
+    (λ c κs. search needs)
+    (λ c. search needs)
+    (λ c κs. search needs)
+    (λ c. search needs)
+    (λ c κs. search needs)
     returns
     returns-2
     returns-3

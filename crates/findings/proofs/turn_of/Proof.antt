@@ -1,55 +1,38 @@
 -- `findings::turn_of` meets its contract.
-use borrow.Author.Tests.{lt-ltb, le-ltb, not-true, not-false}
-use Rattle.findings.specs.Turns.{turnOf}
+use Rattle.findings.specs.Turns as turns
+use Rattle.findings.proofs.Other.{not-in-order}
+use mathlib.Core.Path.{_≡_, refl}
+use Rattle.findings.specs.declared.Turn.the-variants.{Noted}
 use borrow.Author.Needs.{needs}
 use Rattle.findings.proofs.turn_of.Statement.{statement}
 use Rattle.findings.proofs.turn_of.Tie as tie
 
-is-known-requires : tie.Need-is-known-requires
-is-known-requires c κs = search needs
-
 returns : tie.Need-returns
-unfolding turnOf
-returns c = rw (← c .before .is-known .ensures, not-true (c .before .is-known .result) (c .if1 .taken))
-
-is-entry-requires : tie.Need-is-entry-requires
-is-entry-requires c κs = search needs
-
-bumped-requires : tie.Need-bumped-requires
-bumped-requires c κs = search needs
-
-again-requires : tie.Need-again-requires
-again-requires c κs = search needs
+unfolding turns.turnOf
+returns c = rw (← c .before .before .before .before .stands .ensures, c .before .before .enum-told .given .1, c .again .ensures, c .before .bumped .ensures)
 
 returns-2 : tie.Need-returns-2
-unfolding turnOf
-returns-2 c = rw (← c .before .before .before .before .before .is-known .ensures, not-false (c .before .before .before .before .before .is-known .result) (c .before .before .before .before .if1 .left), ← c .before .before .before .is-entry .ensures, c .before .before .if2 .taken, c .again .ensures, c .before .bumped .ensures)
-
-bumped-requires-2 : tie.Need-bumped-requires-2
-bumped-requires-2 c κs = search needs
-
-next-in-order-requires : tie.Need-next-in-order-requires
-next-in-order-requires c κs = search needs
+unfolding turns.turnOf
+returns-2 c = rw (← c .before .before .before .before .before .stands .ensures, c .before .before .before .k .given .1, c .anew .ensures, c .before .bumped2 .ensures)
 
 returns-3 : tie.Need-returns-3
-unfolding turnOf
-returns-3 c = rw (← c .before .before .before .before .before .before .is-known .ensures, not-false (c .before .before .before .before .before .before .is-known .result) (c .before .before .before .before .before .if1 .left), ← c .before .before .before .before .is-entry .ensures, c .before .before .before .if2 .left, ← c .before .before .bumped2 .ensures, ← c .before .next-in-order .ensures, lt-ltb _ _ (c .if3 .taken))
-
-returns-4 : tie.Need-returns-4
-unfolding turnOf
-returns-4 c = rw (← c .before .before .before .before .before .before .is-known .ensures, not-false (c .before .before .before .before .before .before .is-known .result) (c .before .before .before .before .before .if1 .left), ← c .before .before .before .before .is-entry .ensures, c .before .before .before .if2 .left, ← c .before .before .bumped2 .ensures, ← c .before .next-in-order .ensures, le-ltb _ _ (c .if3 .left))
+unfolding turns.turnOf
+returns-3 c =
+    let a = c .before .before .before .args in
+    rw (← c .before .stands .ensures)
+    (not-in-order (λ st. Noted ≡ turns.turnBy (a .directory .now) (a .guide .now) (a .present) st) refl refl (λ k. refl) (c .before .stands .result) (c .match .keys3))
 
 pub turn-of-spec : {M : Type 1} → statement M
 turn-of-spec =
     tie.close
     (tie.spec
-    is-known-requires
+    (λ c κs. search needs)
+    (λ c. search needs)
+    (λ c κs. search needs)
+    (λ c κs. search needs)
+    (λ c. search needs)
+    (λ c κs. search needs)
+    (λ c κs. search needs)
     returns
-    is-entry-requires
-    bumped-requires
-    again-requires
     returns-2
-    bumped-requires-2
-    next-in-order-requires
-    returns-3
-    returns-4)
+    returns-3)

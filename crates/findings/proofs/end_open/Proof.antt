@@ -1,0 +1,30 @@
+-- `findings::end_open` meets its contract.
+use Rattle.findings.specs.Steps as steps
+use Rattle.findings.proofs.Other.{not-later}
+use mathlib.Core.Path.{_≡_, refl}
+use Rattle.findings.specs.declared.Step.the-variants.{Done}
+use borrow.Author.Needs.{needs}
+use Rattle.findings.proofs.end_open.Statement.{statement}
+use Rattle.findings.proofs.end_open.Tie as tie
+
+returns : tie.Need-returns
+unfolding steps.openStep
+returns c = rw (← c .before .before .before .before .before .stands .ensures, c .before .before .before .row .given .1, c .to .ensures, c .before .bumped .ensures)
+
+returns-2 : tie.Need-returns-2
+unfolding steps.openStep
+returns-2 c =
+    let w = c .before .before .before .args .w in
+    rw (← c .before .stands .ensures) (not-later (λ st. Done ≡ steps.openBy w st) refl refl (λ k. refl) refl (c .before .stands .result) (c .match .keys2))
+
+pub end-open-spec : {M : Type 1} → statement M
+end-open-spec =
+    tie.close
+    (tie.spec
+    (λ c. search needs)
+    (λ c κs. search needs)
+    (λ c. search needs)
+    (λ c κs. search needs)
+    (λ c κs. search needs)
+    returns
+    returns-2)

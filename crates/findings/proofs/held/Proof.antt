@@ -1,0 +1,10 @@
+-- `findings::held` meets its contract.
+use borrow.Author.Needs.{needs}
+use Rattle.findings.proofs.held.Statement.{statement}
+use Rattle.findings.proofs.held.Tie as tie
+
+returns : tie.Need-returns
+returns c = rw (c .bumped .ensures)
+
+pub held-spec : {M : Type 1} → statement M
+held-spec = tie.close (tie.spec (λ c κs. search needs) returns)
