@@ -10,3 +10,4 @@ pub mod Open
 pub mod Exchange
 pub mod Marked
 pub mod Tempting
+pub mod Accepting
