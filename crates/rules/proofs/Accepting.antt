@@ -11,7 +11,7 @@ use borrow.Author.Tests.{not-false, eqb-true, eq-eqb}
 use lib.ListN.{length, take, getD}
 use Rattle.rules.specs.Base.{Bytes, Rule, _⇒_, every, ascii, same, any, member, null, isNone, keep}
 use Rattle.rules.specs.Cutting.{Segment, field}
-use Rattle.rules.specs.Numbers.{digits, value, declared, declares, decimal}
+use Rattle.rules.specs.Numbers.{digits, value, countIn, declares, decimal}
 use Rattle.rules.specs.Tables.{Table, table006010, table004010, editionTable, setTable}
 use Rattle.rules.specs.Segments.{notesOf}
 use Rattle.rules.specs.Sets.{Set, isST, setsOf, controlOf, setCodes, SetReport, setReport, accepted}
@@ -113,7 +113,7 @@ supported-table gs s t k = rw (two-names (field gs 1) (k .gs01), k .st01, choose
 
 -- 3. Codes 2 to 23, of a set with a table and a trailer.
 declares-value : (hi : ℕ) (bs : Bytes) (n : ℕ) → declares hi bs n ≡ true ↔ ((digits 1 hi bs ≡ true) × (value bs ≡ n))
-unfolding declared
+unfolding countIn
 declares-value hi bs n = (λ e. go (digits 1 hi bs) refl e, λ p. rw (p .0) (eq-eqb n (value bs) (sym (p .1))))
   where
     go : (b : Bool) → digits 1 hi bs ≡ b → declares hi bs n ≡ true → (digits 1 hi bs ≡ true) × (value bs ≡ n)
@@ -131,7 +131,7 @@ Passed d (some t) es h b none = ⊥
 Passed d (some t) es h b (some se) =
     (field se 2 ≡ field h 2)
     × (declares 10 (field se 1) (length (h ∷ (b ++ se ∷ []))) ≡ true)
-    × (notesOf d t true (h ∷ (b ++ se ∷ [])) ≡ [])
+    × (notesOf d t true h (b ++ se ∷ []) ≡ [])
     × (member (field h 2) es ≡ false)
 
 abbrev setAs : Segment → List Segment → Option Segment → Set
@@ -171,7 +171,7 @@ pub record Sound (d : Delimiters) (gs : Segment) (earlier : List Set) (s : Set) 
   pub se01 : digits 1 10 (field se 1) ≡ true
   pub counted : value (field se 1) ≡ length (s .header ∷ (s .body ++ se ∷ []))
   -- 5: there is no AK3 from ST to SE
-  pub unnoted : notesOf d table true (s .header ∷ (s .body ++ se ∷ [])) ≡ []
+  pub unnoted : notesOf d table true (s .header) (s .body ++ se ∷ []) ≡ []
   -- 23: no earlier set has its ST02
   pub unique : (j : ℕ) → j < length earlier → field (getD earlier j s .header) 2 ≡ field (s .header) 2 → ⊥
 
