@@ -4,10 +4,9 @@ ghost use mathlib.Core.List.{[], _∷_, map};
 ghost use Rattle.rules.specs.Base.{ascii, null, if_then_else_};
 ghost use Rattle.rules.specs.Numbers.{decimal};
 ghost use Rattle.rules.specs.Cutting.{field, split};
-ghost use Rattle.rules.specs.Response.{segmentOut, ak4, stOut, seOut};
+ghost use Rattle.rules.specs.Response.{segmentOut, stOut, seOut};
 ghost use Rattle.writing.specs.Over.{From};
 use rules::Delimiters;
-use rules::Finding;
 
 // ST of a 997.
 pub fn add_st(out: &mut [u8], n: usize, d: Delimiters, st02: &[u8]) -> usize
@@ -32,17 +31,6 @@ pub fn add_ak2(out: &mut [u8], n: usize, d: Delimiters, st: &[u8]) -> usize
     let st01 = segments::field(st, d.element, 1);
     let st02 = segments::field(st, d.element, 2);
     writing::add_pair(out, n, d, &rules::AK2, st01, st02)
-}
-
-// AK4: place, reference number and code.
-pub fn add_ak4(out: &mut [u8], n: usize, d: Delimiters, f: Finding) -> usize
-    ensures { λ r. ⌜ From n (segmentOut d (ak4 f)) r (now (out .entry)) (now (out .exit)) ⌝ }
-{
-    let n = writing::add_bytes(out, n, &rules::AK4);
-    let n = writing::add_count(out, n, d, f.place as u64);
-    let n = writing::add_optional(out, n, d, f.reference as u64);
-    let n = writing::add_count(out, n, d, f.code as u64);
-    writing::add_byte(out, n, d.terminator)
 }
 
 fn verdict_of(codes: &[u8]) -> u8

@@ -1,28 +1,45 @@
--- A loop that writes segments and counts them: how far it has come, one segment more, and its end.
-use mathlib.Core.Path.{_≡_, refl}
-use mathlib.Core.List.{List, [], _∷_}
+-- A loop that writes segments and counts them: how far it has come, what a step adds, and its end.
+use mathlib.Core.Path.{_≡_, refl, ap, _∙_}
+use mathlib.Core.List.{List, [], _∷_, _++_, append-nil}
 use Prim.Native.Nat.{ℕ, _+_, _<_}
 use native.Mathlib.Omega.{arith}
-use lib.ListN.{length}
+use lib.ListN.{length, length-append}
 use Rattle.rules.specs.Base.{Bytes}
 use Rattle.rules.specs.Cutting.{Segment}
 use Rattle.rules.specs.Response.{segmentOut, out}
 use Rattle.rules.specs.declared.Delimiters.{Delimiters}
+use Rattle.rules.proofs.Cuts.{out-append}
 use Rattle.writing.specs.Over.{sat, From}
-use Rattle.writing.proofs.Laws.{Owes, all, pay, done, whole, kept}
-use Rattle.notes.specs.Saying.{Tells}
+use Rattle.writing.proofs.Laws.{Owes, all, pay, done, whole, none, said, kept}
+use Rattle.notes.specs.declared.Told.{Told}
+use Rattle.notes.specs.Saying.{Adds, Tells}
 
--- Of the segments ss those of `rest` are still to be written: n bytes and k segments are, and the buffer, o₀ at first, is o.
-pub record Sofar (d : Delimiters) (ss rest : List Segment) (n k : ℕ) (o₀ o : Bytes) : Type 0 where
-  pub owes : Owes (out d rest) n o 0 (out d ss) o₀
-  pub number : sat (k + length rest) ≡ sat (length ss)
-  pub length-fits : n < 18446744073709551616
-  pub number-fits : k < 18446744073709551616
+-- 1. What is added.
+-- no segment
+pub adds-none : (d : Delimiters) (t : Told) (o : Bytes)
+    → t .length < 18446744073709551616 → t .segments < 18446744073709551616 → length o < 9223372036854775808 → Adds d [] t t o o
+unfolding out
+adds-none d t o long many small = record { text = none (t .length) o long small; number = omega arith }
+
+-- one segment
+pub adds-one : {d : Delimiters} {s : Segment} {t r : Told} {m : ℕ} {o o₁ : Bytes}
+    → From (t .length) (segmentOut d s) m o o₁ → r ≡ record { length = m; segments = sat (t .segments + 1) } → Adds d (s ∷ []) t r o o₁
+unfolding out
+adds-one {d} {s} w e = rw e (record { text = said (append-nil (segmentOut d s)) w; number = refl })
+
+-- 2. How far a loop has come.
+-- Of the segments ss those of `rest` are still to be written: t tells what is, and the buffer, o₀ at first, is o.
+pub record Sofar (d : Delimiters) (ss rest : List Segment) (t : Told) (o₀ o : Bytes) : Type 0 where
+  pub owes : Owes (out d rest) (t .length) o 0 (out d ss) o₀
+  pub number : sat (t .segments + length rest) ≡ sat (length ss)
+  pub length-fits : t .length < 18446744073709551616
+  pub number-fits : t .segments < 18446744073709551616
   pub room : length o < 9223372036854775808
   pub stays : length o ≡ length o₀
 
 -- none is written
-pub begin : (d : Delimiters) (ss : List Segment) (o : Bytes) → length o < 9223372036854775808 → Sofar d ss ss 0 0 o o
+pub begin : (d : Delimiters) (ss : List Segment) (o : Bytes) → length o < 9223372036854775808
+    → Sofar d ss ss (record { length = 0; segments = 0 }) o o
 begin d ss o small = record {
   owes = all 0 (out d ss) o;
   number = omega arith;
@@ -32,21 +49,16 @@ begin d ss o small = record {
   stays = refl;
 }
 
--- nothing is written
-pub stay : {d : Delimiters} {ss rest us : List Segment} {n k : ℕ} {o₀ o : Bytes} → Sofar d ss us n k o₀ o → us ≡ rest → Sofar d ss rest n k o₀ o
-stay f e = rw e at f
-
--- a segment is written and counted
-pub turn : {d : Delimiters} {ss rest us : List Segment} {s : Segment} {n m k j : ℕ} {o₀ o o₁ : Bytes}
-    → Sofar d ss us n k o₀ o → us ≡ s ∷ rest → From n (segmentOut d s) m o o₁ → j ≡ sat (k + 1) → Sofar d ss rest m j o₀ o₁
-unfolding out
-turn {d} {ss} {rest} {us} {s} {n} {m} {k} {j} {o₀} {o} {o₁} f e w c =
-    let counted = f .number in
-    let written = w .count in
-    let same = kept w in
+-- the next ones are written and counted
+pub onward : {d : Delimiters} {ss rest us vs : List Segment} {t r : Told} {o₀ o o₁ : Bytes}
+    → Sofar d ss us t o₀ o → us ≡ vs ++ rest → Adds d vs t r o o₁ → Sofar d ss rest r o₀ o₁
+onward {d} {ss} {rest} {us} {vs} {t} {r} {o₀} {o} {o₁} f e w =
+    let longer = w .text .count in
+    let more = w .number in
+    let same = kept (w .text) in
     record {
-      owes = pay (f .owes) w (rw e);
-      number = omega (arith, rw e at counted);
+      owes = pay (f .owes) (w .text) (ap (out d) e ∙ out-append d vs rest);
+      number = omega (arith, f .number, ap length e ∙ length-append vs rest);
       length-fits = omega arith;
       number-fits = omega arith;
       room = omega (arith, f .room);
@@ -54,8 +66,7 @@ turn {d} {ss} {rest} {us} {s} {n} {m} {k} {j} {o₀} {o} {o₁} f e w c =
     }
 
 -- all are written
-pub ends : {d : Delimiters} {ss us : List Segment} {n k : ℕ} {o₀ o : Bytes} → Sofar d ss us n k o₀ o → us ≡ []
-    → Tells d ss (record { length = n; segments = k }) o₀ o
+pub ends : {d : Delimiters} {ss us : List Segment} {t : Told} {o₀ o : Bytes} → Sofar d ss us t o₀ o → us ≡ [] → Tells d ss t o₀ o
 unfolding out
 ends f e =
     let counted = f .number in

@@ -1,17 +1,20 @@
-// The notes of a set, written.
+// The notes of a set, written: an AK3 for each segment that is told, and an AK4 for each finding.
+ghost use mathlib.Core.Path.{_≡_};
 ghost use mathlib.Core.List.{[], _∷_, map};
+ghost use Prim.Native.Nat.{_+_};
 ghost use Rattle.rules.specs.Base.{every, _⇒_};
 ghost use Rattle.rules.specs.Numbers.{decimal};
-ghost use Rattle.rules.specs.Response.{fieldsOut, segmentOut};
+ghost use Rattle.rules.specs.Response.{fieldsOut, segmentOut, ak4};
 ghost use Rattle.tables.specs.Reading.{idBytes};
 ghost use Rattle.findings.specs.Events as events;
 ghost use Rattle.findings.specs.Left as rest;
 ghost use Rattle.findings.specs.Steps.{codesOf, start};
-ghost use Rattle.notes.specs.Saying.{Tells};
-ghost use Rattle.writing.specs.Over.{From};
+ghost use Rattle.notes.specs.Saying.{toldIn, Adds, Tells};
+ghost use Rattle.writing.specs.Over.{sat, From};
 use findings::Line;
 use findings::Step;
 use rules::Delimiters;
+use rules::Finding;
 use tables::SegmentId;
 
 // A segment's id as an element.
@@ -46,13 +49,46 @@ fn add_ak3(out: &mut [u8], n: usize, d: Delimiters, l: Line) -> usize
     writing::add_byte(out, n, d.terminator)
 }
 
+// AK4: place, reference number and code.
+fn add_ak4(out: &mut [u8], n: usize, d: Delimiters, f: Finding) -> usize
+    ensures { λ r. ⌜ From n (segmentOut d (ak4 f)) r (now (out .entry)) (now (out .exit)) ⌝ }
+{
+    let n = writing::add_bytes(out, n, &rules::AK4);
+    let n = writing::add_count(out, n, d, f.place as u64);
+    let n = writing::add_optional(out, n, d, f.reference as u64);
+    let n = writing::add_count(out, n, d, f.code as u64);
+    writing::add_byte(out, n, d.terminator)
+}
+
 // What was written of a list of segments: the length of their text, and how many they are.
 pub struct Told {
     pub length: usize,
     pub segments: usize,
 }
 
-// The notes of a set, from the start of what is lent: an AK3 for each segment that is told, and an AK4 for each finding.
+// One segment more, with which the text has n bytes.
+fn one_more(told: Told, n: usize) -> Told
+    ensures { λ r. ⌜ r ≡ record { length = n; segments = sat (told .segments + 1) } ⌝ }
+{
+    Told {
+        length: n,
+        segments: writing::joined(told.segments, 1),
+    }
+}
+
+// What one step of a walk tells, written after what was told before: an AK3, an AK4 or nothing.
+fn add_told(out: &mut [u8], told: Told, d: Delimiters, step: Step) -> Told
+    ensures { λ r. ⌜ Adds d (map events.written (toldIn step)) told r (now (out .entry)) (now (out .exit)) ⌝ }
+{
+    match step {
+        Step::Quiet(_) => told,
+        Step::Segment(line, _) => one_more(told, add_ak3(out, told.length, d, line)),
+        Step::Element(finding, _) => one_more(told, add_ak4(out, told.length, d, finding)),
+        Step::Done => told,
+    }
+}
+
+// The notes of a set, from the start of what is lent.
 pub fn put_notes(
     out: &mut [u8],
     set: &[u8],
@@ -63,29 +99,26 @@ pub fn put_notes(
 ) -> Told
     ensures { λ r. ⌜ Tells d (map events.written (rest.events (rest.left (now (set .entry)) d (now (directory .entry)) (now (guide .entry)) closed start))) r (now (out .entry)) (now (out .exit)) ⌝ }
 {
-    let mut n = 0;
-    let mut segments = 0;
+    let mut told = Told {
+        length: 0,
+        segments: 0,
+    };
     let mut w = findings::start();
     loop {
-        match findings::next(set, d, directory, guide, closed, w) {
+        let step = findings::next(set, d, directory, guide, closed, w);
+        told = add_told(out, told, d, step);
+        match step {
             Step::Quiet(v) => {
                 w = v;
             }
-            Step::Segment(line, v) => {
-                n = add_ak3(out, n, d, line);
-                segments = writing::joined(segments, 1);
+            Step::Segment(_, v) => {
                 w = v;
             }
-            Step::Element(finding, v) => {
-                n = blocks::add_ak4(out, n, d, finding);
-                segments = writing::joined(segments, 1);
+            Step::Element(_, v) => {
                 w = v;
             }
             Step::Done => {
-                return Told {
-                    length: n,
-                    segments,
-                };
+                return told;
             }
         }
     }

@@ -100,7 +100,6 @@ use Rattle.response_envelope.proofs.add_iea.Reads as response-envelope-add-iea
 use Rattle.blocks.proofs.add_st.Reads as blocks-add-st
 use Rattle.blocks.proofs.add_ak1.Reads as blocks-add-ak1
 use Rattle.blocks.proofs.add_ak2.Reads as blocks-add-ak2
-use Rattle.blocks.proofs.add_ak4.Reads as blocks-add-ak4
 use Rattle.blocks.proofs.add_ak5.Reads as blocks-add-ak5
 use Rattle.blocks.proofs.add_ak9.Reads as blocks-add-ak9
 use Rattle.blocks.proofs.add_se.Reads as blocks-add-se
@@ -419,9 +418,6 @@ blocks-add-ak1-once = ((λ κs a. tt), λ κs a r₁ r₂ s₁ s₂ p q. from-on
 
 blocks-add-ak2-once : Determined blocks-add-ak2.Pre blocks-add-ak2.Post (λ κs r s. beside r (now (s .0)))
 blocks-add-ak2-once = ((λ κs a. tt), λ κs a r₁ r₂ s₁ s₂ p q. from-once p q)
-
-blocks-add-ak4-once : Determined blocks-add-ak4.Pre blocks-add-ak4.Post (λ κs r s. beside r (now (s .0)))
-blocks-add-ak4-once = ((λ κs a. tt), λ κs a r₁ r₂ s₁ s₂ p q. from-once p q)
 
 blocks-add-ak5-once : Determined blocks-add-ak5.Pre blocks-add-ak5.Post (λ κs r s. beside r (now (s .0)))
 blocks-add-ak5-once = ((λ κs a. tt), λ κs a r₁ r₂ s₁ s₂ p q. from-once p q)

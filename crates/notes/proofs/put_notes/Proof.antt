@@ -1,80 +1,80 @@
--- `notes::put_notes` meets its contract: each step's segment is the next of those that are left.
+-- `notes::put_notes` meets its contract: what each step tells is next of what is left.
 use borrow.Author.Needs.{needs}
-use mathlib.Core.Path.{sym, ap, _∙_}
-use mathlib.Core.List.{map}
+use mathlib.Core.Path.{_≡_, refl, sym, _∙_}
+use mathlib.Core.List.{List, [], _++_, map, map-append}
 use native.Mathlib.Omega.{arith}
 use lib.ListN.{length}
-use Rattle.findings.specs.Events.{written}
+use Rattle.findings.specs.Events.{Event, written}
 use Rattle.findings.specs.Left.{left, events}
 use Rattle.findings.specs.Steps as steps
+use Rattle.findings.specs.declared.Step.{Step}
 use Rattle.findings.proofs.Told.{step-quiet, step-segment, step-element, step-done}
-use Rattle.notes.proofs.Sofar.{Sofar, begin, stay, turn, ends}
+use Rattle.writing.proofs.Laws.{kept}
+use Rattle.notes.specs.Saying.{toldIn}
+use Rattle.notes.proofs.Sofar.{Sofar, begin, onward, ends}
 use Rattle.notes.proofs.put_notes.Statement.{statement}
 use Rattle.notes.proofs.put_notes.Tie as tie
 
+-- of the events that are left, a step tells the first
+carried : {s t : Step} {es : List Event} (fs : List Event) → s ≡ t → es ≡ toldIn t ++ fs → map written es ≡ map written (toldIn s) ++ map written fs
+carried {s} {t} {es} fs e f = rw (e, f) (map-append written (toldIn t) fs)
+
 abbrev Inv-loop : tie.InvT-loop
-Inv-loop out₀ set d directory guide closed n₀ segments₀ w₀ out n segments w =
-    Sofar d (map written (events (left set d directory guide closed steps.start))) (map written (events (left set d directory guide closed w))) n segments out₀ out
+Inv-loop out₀ set d directory guide closed told₀ w₀ out told w =
+    Sofar d (map written (events (left set d directory guide closed steps.start))) (map written (events (left set d directory guide closed w))) told out₀ out
 
 abbrev μ-loop : tie.MeasureT-loop
-μ-loop out₀ set d directory guide closed n₀ segments₀ w₀ out n segments w = length (left set d directory guide closed w)
-
-start-requires : tie.Need-start-requires Inv-loop μ-loop
-start-requires c κs = search needs
+μ-loop out₀ set d directory guide closed told₀ w₀ out told w = length (left set d directory guide closed w)
 
 loop-holds : tie.Need-loop-holds Inv-loop μ-loop
 loop-holds c = rw (c .start .ensures) (begin _ _ _ (omega arith))
 
-next-requires : tie.Need-next-requires Inv-loop μ-loop
-next-requires c κs = search needs
-
-enum-known-v : tie.Need-enum-known-v Inv-loop μ-loop
-enum-known-v c = search needs
-
 loop-less : tie.Need-loop-less Inv-loop μ-loop
-loop-less c = step-quiet (sym (c .before .before .before .next .ensures) ∙ c .before .v .given .1) .fewer
+loop-less c =
+    let next = c .before .before .before .before .before .before .before in
+    step-quiet (sym (next .next .ensures) ∙ c .before .step .given .1) .fewer
 
 loop-again : tie.Need-loop-again Inv-loop μ-loop
-loop-again c = stay (c .before .before .before .before .loop .inv) (ap (map written) (step-quiet (sym (c .before .before .before .next .ensures) ∙ c .before .v .given .1) .tells))
-
-enum-known-line : tie.Need-enum-known-line Inv-loop μ-loop
-enum-known-line c = search needs
-
-add-ak3-requires : tie.Need-add-ak3-requires Inv-loop μ-loop
-add-ak3-requires c κs = search needs
-
-joined-requires : tie.Need-joined-requires Inv-loop μ-loop
-joined-requires c κs = search needs
+loop-again c =
+    let added = c .before .before .before .before .before in
+    let next = added .before .before in
+    let is = c .before .step .given .1 in
+    onward (next .before .loop .inv) (carried _ is (step-quiet (sym (next .next .ensures) ∙ is) .tells)) (added .add-told .ensures)
 
 loop-less-2 : tie.Need-loop-less-2 Inv-loop μ-loop
-loop-less-2 c = step-segment (sym (c .before .before .before .before .before .before .before .before .next .ensures) ∙ c .before .before .before .before .before .before .line .given .1) .fewer
+loop-less-2 c =
+    let next = c .before .before .before .before .before .before .before in
+    step-segment (sym (next .next .ensures) ∙ c .before .step2 .given .1) .fewer
 
 loop-again-2 : tie.Need-loop-again-2 Inv-loop μ-loop
-loop-again-2 c = turn (c .before .before .before .before .before .before .before .before .before .loop .inv) (ap (map written) (step-segment (sym (c .before .before .before .before .before .before .before .before .next .ensures) ∙ c .before .before .before .before .before .before .line .given .1) .tells)) (c .before .before .before .add-ak3 .ensures) (c .joined .ensures)
-
-enum-known-finding : tie.Need-enum-known-finding Inv-loop μ-loop
-enum-known-finding c = search needs
-
-add-ak4-requires : tie.Need-add-ak4-requires Inv-loop μ-loop
-add-ak4-requires c κs = search needs
-
-joined-requires-2 : tie.Need-joined-requires-2 Inv-loop μ-loop
-joined-requires-2 c κs = search needs
+loop-again-2 c =
+    let added = c .before .before .before .before .before in
+    let next = added .before .before in
+    let is = c .before .step2 .given .1 in
+    onward (next .before .loop .inv) (carried _ is (step-segment (sym (next .next .ensures) ∙ is) .tells)) (added .add-told .ensures)
 
 loop-less-3 : tie.Need-loop-less-3 Inv-loop μ-loop
-loop-less-3 c = step-element (sym (c .before .before .before .before .before .before .before .before .next .ensures) ∙ c .before .before .before .before .before .before .finding .given .1) .fewer
+loop-less-3 c =
+    let next = c .before .before .before .before .before .before .before in
+    step-element (sym (next .next .ensures) ∙ c .before .step3 .given .1) .fewer
 
 loop-again-3 : tie.Need-loop-again-3 Inv-loop μ-loop
-loop-again-3 c = turn (c .before .before .before .before .before .before .before .before .before .loop .inv) (ap (map written) (step-element (sym (c .before .before .before .before .before .before .before .before .next .ensures) ∙ c .before .before .before .before .before .before .finding .given .1) .tells)) (c .before .before .before .add-ak4 .ensures) (c .joined2 .ensures)
-
-enum-told : tie.Need-enum-told Inv-loop μ-loop
-enum-told c = search needs
+loop-again-3 c =
+    let added = c .before .before .before .before .before in
+    let next = added .before .before in
+    let is = c .before .step3 .given .1 in
+    onward (next .before .loop .inv) (carried _ is (step-element (sym (next .next .ensures) ∙ is) .tells)) (added .add-told .ensures)
 
 same-length : tie.Need-same-length Inv-loop μ-loop
-same-length c = c .before .before .before .loop .inv .stays
+same-length c = let added = c .before .before .before .before in kept (added .add-told .ensures .text) ∙ added .before .before .before .loop .inv .stays
 
 returns : tie.Need-returns Inv-loop μ-loop
-returns c = ends (c .before .before .before .loop .inv) (ap (map written) (step-done (sym (c .before .before .next .ensures) ∙ c .enum-told .given .1) .tells))
+returns c =
+    let added = c .before .before .before .before in
+    let next = added .before .before in
+    let is = c .enum-told .given .1 in
+    let over = step-done (sym (next .next .ensures) ∙ is) .tells in
+    ends (onward (next .before .loop .inv) (carried _ is over) (added .add-told .ensures)) refl
 
 pub put-notes-spec : {M : Type 1} → statement M
 put-notes-spec =
@@ -82,22 +82,19 @@ put-notes-spec =
     (tie.spec
     Inv-loop
     μ-loop
-    start-requires
+    (λ c κs. search needs)
     loop-holds
-    next-requires
-    enum-known-v
+    (λ c κs. search needs)
+    (λ c κs. search needs)
+    (λ c. search needs)
     loop-less
     loop-again
-    enum-known-line
-    add-ak3-requires
-    joined-requires
+    (λ c. search needs)
     loop-less-2
     loop-again-2
-    enum-known-finding
-    add-ak4-requires
-    joined-requires-2
+    (λ c. search needs)
     loop-less-3
     loop-again-3
-    enum-told
+    (λ c. search needs)
     same-length
     returns)

@@ -1,10 +1,10 @@
--- `blocks::add_ak4` meets its contract: a segment's row of pieces.
+-- `notes::add_ak4` meets its contract: a segment's row of pieces.
 use borrow.Author.Needs.{needs}
 use Rattle.rules.specs.Response.{ak4}
 use Rattle.writing.proofs.Laws.{kept}
 use Rattle.writing.proofs.Segments.{begin, more, end}
-use Rattle.blocks.proofs.add_ak4.Statement.{statement}
-use Rattle.blocks.proofs.add_ak4.Tie as tie
+use Rattle.notes.proofs.add_ak4.Statement.{statement}
+use Rattle.notes.proofs.add_ak4.Tie as tie
 
 returns : tie.Need-returns
 unfolding ak4
