@@ -7,6 +7,9 @@ ghost use Rattle.headers.specs.Rules.{headerRules, acknowledgmentRules};
 use rules::Delimiters;
 use rules::FA;
 
+// How many digits IEA01 may have.
+const IEA01_DIGITS: usize = 5;
+
 // IEA has exactly two elements.
 fn has_two(iea: &[u8], d: Delimiters) -> bool
     ensures { λ r. ⌜ r ≡ refusals.hasTwo (split (d .element) (now (iea .entry))) ⌝ }
@@ -18,8 +21,7 @@ fn has_two(iea: &[u8], d: Delimiters) -> bool
 fn counts_groups(n: u64, iea: &[u8], d: Delimiters) -> bool
     ensures { λ r. ⌜ r ≡ refusals.countsGroups n (split (d .element) (now (iea .entry))) ⌝ }
 {
-    let declared = segments::field(iea, d.element, 1);
-    text::is_digits(declared, 1, 5) && n == text::value(declared)
+    text::declares(segments::field(iea, d.element, 1), IEA01_DIGITS, n)
 }
 
 // IEA02 is ISA13.

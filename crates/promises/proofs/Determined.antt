@@ -21,6 +21,8 @@ use Rattle.text.proofs.same_bytes.Reads as text-same-bytes
 use Rattle.text.proofs.all_digits.Reads as text-all-digits
 use Rattle.text.proofs.is_digits.Reads as text-is-digits
 use Rattle.text.proofs.value.Reads as text-value
+use Rattle.text.proofs.count_in.Reads as text-count-in
+use Rattle.text.proofs.declares.Reads as text-declares
 use Rattle.text.proofs.is_day.Reads as text-is-day
 use Rattle.text.proofs.is_date.Reads as text-is-date
 use Rattle.text.proofs.is_time.Reads as text-is-time
@@ -165,6 +167,12 @@ text-is-digits-once κs a r₁ r₂ s₁ s₂ p q = p ∙ sym q
 
 text-value-once : Once text-value.Post (λ κs r s. r)
 text-value-once κs a r₁ r₂ s₁ s₂ p q = p ∙ sym q
+
+text-count-in-once : Once text-count-in.Post (λ κs r s. r)
+text-count-in-once κs a r₁ r₂ s₁ s₂ p q = p ∙ sym q
+
+text-declares-once : Once text-declares.Post (λ κs r s. r)
+text-declares-once κs a r₁ r₂ s₁ s₂ p q = p ∙ sym q
 
 text-is-day-once : Once text-is-day.Post (λ κs r s. r)
 text-is-day-once κs a r₁ r₂ s₁ s₂ p q = p ∙ sym q

@@ -129,7 +129,7 @@ module _ (d : Delimiters) where
       simp length-append
       (omega (
         arith,
-        decimal-short (r .declared),
+        decimal-short (r .included),
         decimal-short (r .received),
         decimal-short (r .allowed),
         codes-short (r .codes),

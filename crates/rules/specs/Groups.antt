@@ -67,13 +67,13 @@ abbrev pub verdict : List ℕ → ℕ → ℕ → Bytes
 verdict codes received ok =
     if not (null codes) || eqb ok 0 then ascii "R" else (if eqb ok received then ascii "A" else ascii "P")
 
--- what is reported of a group; declared, received and allowed are AK902 to AK904
+-- what is reported of a group; included, received and allowed are AK902 to AK904
 pub record GroupReport : Type 0 where
   pub gs01 : Bytes
   pub gs06 : Bytes
   pub gs08 : Bytes
   pub verdict : Bytes
-  pub declared : ℕ
+  pub included : ℕ
   pub received : ℕ
   pub allowed : ℕ
   pub codes : List ℕ
@@ -98,7 +98,7 @@ groupReport d g =
       gs06 = field gs 6;
       gs08 = field gs 8;
       verdict = v;
-      declared = or-else (declaredIn 6 (g .trailer)) (length (sets g));
+      included = or-else (declaredIn 6 (g .trailer)) (length (sets g));
       received = length (sets g);
       allowed = if same v (ascii "R") then 0 else acceptedIn rs;
       codes = codes;

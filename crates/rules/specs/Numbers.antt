@@ -19,13 +19,13 @@ valueFrom n (b ∷ bs) = valueFrom (n * 10 + (b - 48)) bs
 unfoldable pub value : Bytes → ℕ
 value = valueFrom 0
 
--- the count that one to hi digits declare
-unfoldable pub declared : ℕ → Bytes → Option ℕ
-declared hi bs = if digits 1 hi bs then some (value bs) else none
+-- the count that one to hi digits stand for
+unfoldable pub countIn : ℕ → Bytes → Option ℕ
+countIn hi bs = if digits 1 hi bs then some (value bs) else none
 
 -- SE01, GE01 or IEA01 declares the count n
 abbrev pub declares : ℕ → Bytes → ℕ → Bool
-declares hi bs n = holds (eqb n) (declared hi bs)
+declares hi bs n = holds (eqb n) (countIn hi bs)
 
 -- the last w digits of n
 unfoldable pub padded : ℕ → ℕ → Bytes

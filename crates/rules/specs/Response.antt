@@ -63,7 +63,7 @@ ak1 g = ascii "AK1" ∷ g .gs01 ∷ g .gs06 ∷ []
 
 unfoldable pub ak9 : GroupReport → Segment
 ak9 g =
-    ascii "AK9" ∷ g .verdict ∷ decimal (g .declared) ∷ decimal (g .received) ∷ decimal (g .allowed)
+    ascii "AK9" ∷ g .verdict ∷ decimal (g .included) ∷ decimal (g .received) ∷ decimal (g .allowed)
     ∷ map decimal (g .codes)
 
 unfoldable pub stOut : Bytes → Segment

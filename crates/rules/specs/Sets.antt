@@ -6,7 +6,7 @@ use mathlib.Core.Option.{Option, none, some}
 use lib.ListN.{length}
 use Rattle.rules.specs.Base.{Bytes, Rule, _⇒_, every, null, isNone, holds, listed, ascii, same, member, if_then_else_}
 use Rattle.rules.specs.Cutting.{Segment, field, isNamed}
-use Rattle.rules.specs.Numbers.{declared, declares}
+use Rattle.rules.specs.Numbers.{countIn, declares}
 use Rattle.rules.specs.Tables.{Table}
 use Rattle.rules.specs.Segments.{Note, notesOf}
 use Rattle.rules.specs.declared.Delimiters.{Delimiters}
@@ -81,7 +81,7 @@ setCodes t notes earlier s = every (
 -- the count that a trailer declares in at most hi digits
 abbrev pub declaredIn : ℕ → Option Segment → Option ℕ
 declaredIn hi none = none
-declaredIn hi (some s) = declared hi (field s 1)
+declaredIn hi (some s) = countIn hi (field s 1)
 
 unfoldable pub setReport : Delimiters → Option Table → List Bytes → Set → SetReport
 setReport d t earlier s =

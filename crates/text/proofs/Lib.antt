@@ -3,3 +3,4 @@ pub mod Search
 pub mod Where
 pub mod Digits
 pub mod Times
+pub mod Counts

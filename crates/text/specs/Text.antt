@@ -2,12 +2,15 @@
 use Prim.Native.Nat.{ℕ, suc, _+_, _-_}
 use mathlib.Core.Bool.{Bool, not}
 use mathlib.Core.List.{List, [], _∷_}
+use mathlib.Core.Option.{Option, none, some}
 use lib.Dec.{eqb}
 use lib.ListN.{take, drop}
 use Rattle.rules.specs.Base.{Bytes, if_then_else_}
 use Rattle.rules.specs.Cutting.{valid}
 use Rattle.rules.specs.Numbers.{digits, value}
 use Rattle.rules.specs.declared.Delimiters.{Delimiters}
+use Rattle.text.specs.declared.Count.{Count}
+use Rattle.text.specs.declared.Count.the-variants.{Of, Nothing}
 
 -- how many come before the first that passes; all where none does
 unfoldable pub indexWhere {ℓ} : {A : Type ℓ} → (A → Bool) → List A → ℕ
@@ -33,3 +36,8 @@ invalid d b = not (valid d b)
 -- the value of at most ten digits, 0 for anything else
 unfoldable pub upToTen : Bytes → ℕ
 upToTen bs = if digits 0 10 bs then value bs else 0
+
+-- a count as it is told, where there is one
+abbrev pub counted : Option ℕ → Count
+counted none = Nothing
+counted (some n) = Of n

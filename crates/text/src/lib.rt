@@ -1,14 +1,14 @@
 // Leaves on bytes: searching, comparing, digits and the numbers that they stand for, dates, times, valid bytes.
 ghost use mathlib.Core.Path.{_≡_};
 ghost use mathlib.Core.Bool.{_||_};
-ghost use Prim.Native.Nat.{_+_, _≤_};
+ghost use Prim.Native.Nat.{_+_, _≤_, min};
 ghost use lib.Dec.{eqb};
 ghost use lib.ListN.{length, take, drop};
 ghost use Rattle.rules.specs.Base.{between, isDigit, isUpper, isUpperOrDigit, same, all, any};
 ghost use Rattle.rules.specs.Cutting.{valid, text};
-ghost use Rattle.rules.specs.Numbers.{digits, isDay, isDate, isTime};
+ghost use Rattle.rules.specs.Numbers.{digits, countIn, declares, isDay, isDate, isTime};
 ghost use Rattle.rules.specs.Elements as elements;
-ghost use Rattle.text.specs.Text.{indexOf, nextWhere, part, invalid, upToTen};
+ghost use Rattle.text.specs.Text.{indexOf, nextWhere, part, invalid, upToTen, counted};
 use rules::Delimiters;
 
 // The place of the first b from `from` on; the length where there is none, and `from` where that is past the end.
@@ -141,6 +141,40 @@ pub fn value(s: &[u8]) -> u64
         i += 1;
     }
     n
+}
+
+// The count that digits stand for, where they do.
+pub enum Count {
+    Of(u64),
+    Nothing,
+}
+
+// As many digits as a value can be read from.
+fn at_most_ten(most: usize) -> usize
+    ensures { λ r. ⌜ r ≡ min most 10 ⌝ }
+{
+    if most < 10 { most } else { 10 }
+}
+
+// The count that one to `most` digits stand for, or one to ten where `most` is greater.
+pub fn count_in(s: &[u8], most: usize) -> Count
+    ensures { λ r. ⌜ r ≡ counted (countIn (min most 10) (now (s .entry))) ⌝ }
+{
+    if is_digits(s, 1, at_most_ten(most)) {
+        Count::Of(value(s))
+    } else {
+        Count::Nothing
+    }
+}
+
+// One to `most` digits declare the count n, where one to ten are read at most.
+pub fn declares(s: &[u8], most: usize, n: u64) -> bool
+    ensures { λ r. ⌜ r ≡ declares (min most 10) (now (s .entry)) n ⌝ }
+{
+    match count_in(s, most) {
+        Count::Of(m) => n == m,
+        Count::Nothing => false,
+    }
 }
 
 // A day CCYYMMDD: month 01 to 12, day 01 to 31.

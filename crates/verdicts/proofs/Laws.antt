@@ -4,7 +4,6 @@ use mathlib.Core.Path.{_≡_, refl, sym}
 use mathlib.Core.Bool.{Bool, true, false, _&&_, not, true≢false}
 use mathlib.Core.List.{List}
 use mathlib.Core.Option.{Option, none, some}
-use native.Mathlib.Omega.{arith}
 use lib.Dec.{lit≤}
 use lib.ListN.{length}
 use Rattle.rules.specs.Base.{Bytes, null, isNone, ascii, same, member, if_then_else_}
@@ -14,19 +13,9 @@ use Rattle.rules.specs.Segments.{Note}
 use Rattle.rules.specs.Sets.{Set, segmentsOf, controlOf, setCodes}
 use Rattle.rules.specs.Groups.{Group, sets, supported, edition, tableIn, groupCodes}
 use Rattle.verdicts.specs.Collecting.{codesOf, collected}
-use Rattle.verdicts.specs.Verdicts.{counted, trailerIf, setCodeRules, groupCodeRules, editionIn, tableFor}
-use Rattle.verdicts.specs.declared.Declared.the-variants.{Count, Nothing}
+use Rattle.verdicts.specs.Verdicts.{trailerIf, setCodeRules, groupCodeRules, editionIn, tableFor}
 use Rattle.verdicts.specs.declared.Edition.the-variants.{E006010, E004010, Other}
 use Rattle.verdicts.proofs.Collected.{collected-codes}
-
--- what a declared count is, by how it is told
-pub counted-some : (o : Option ℕ) (n : ℕ) → counted o ≡ Count n → o ≡ some n
-counted-some none n e = let z : _≡_ {A = ℕ} 0 1 = cc in absurd (omega arith)
-counted-some (some m) n e = cc
-
-pub counted-none : (o : Option ℕ) → counted o ≡ Nothing → o ≡ none
-counted-none none e = refl
-counted-none (some m) e = let z : _≡_ {A = ℕ} 0 1 = cc in absurd (omega arith)
 
 pub closed-if : (closed : Bool) (s : Segment) → not closed ≡ isNone (trailerIf closed s)
 closed-if true s = refl

@@ -1,4 +1,4 @@
--- What codes and counts are decided by: declared counts, trailers, editions, and the rules of a set and of a group.
+-- What codes and counts are decided by: trailers, editions, and the rules of a set and of a group.
 use Prim.Native.Nat.{ℕ}
 use mathlib.Core.Bool.{Bool, true, false, not}
 use mathlib.Core.List.{List, [], _∷_}
@@ -8,14 +8,8 @@ use Rattle.rules.specs.Cutting.{Segment, field}
 use Rattle.rules.specs.Numbers.{declares}
 use Rattle.rules.specs.Tables.{Table, editionTable, table006010, table004010}
 use Rattle.rules.specs.Groups.{supported, edition}
-use Rattle.verdicts.specs.declared.Declared.{Declared}
-use Rattle.verdicts.specs.declared.Declared.the-variants.{Count, Nothing}
 use Rattle.verdicts.specs.declared.Edition.{Edition}
 use Rattle.verdicts.specs.declared.Edition.the-variants.{E006010, E004010, Other}
-
-abbrev pub counted : Option ℕ → Declared
-counted none = Nothing
-counted (some n) = Count n
 
 -- the trailer of what is closed
 abbrev pub trailerIf : Bool → Segment → Option Segment

@@ -7,14 +7,13 @@ ghost use lib.ListN.{take};
 ghost use Rattle.rules.specs.Base.{ascii, same, member, null, isNone, if_then_else_};
 ghost use Rattle.rules.specs.Cutting as cutting;
 ghost use Rattle.rules.specs.Cutting.{split};
-ghost use Rattle.rules.specs.Numbers as numbers;
 ghost use Rattle.rules.specs.Sets.{declaredIn};
 ghost use Rattle.rules.specs.Groups as groups;
 ghost use Rattle.verdicts.specs.Collecting.{codesOf, noCodes, withCode, collected};
-ghost use Rattle.verdicts.specs.Verdicts.{counted, trailerIf, otherControl, otherCount, setCodeRules, groupCodeRules, editionIn, tableFor};
+ghost use Rattle.verdicts.specs.Verdicts.{trailerIf, otherControl, otherCount, setCodeRules, groupCodeRules, editionIn, tableFor};
 use rules::Delimiters;
 use segments::field;
-use text::is_digits;
+use text::Count;
 use text::same_bytes;
 
 // The group ids that are supported.
@@ -88,40 +87,6 @@ impl Codes {
     }
 }
 
-// The count that an element declares, where it does.
-pub enum Declared {
-    Count(u64),
-    Nothing,
-}
-
-// The count that one to `most` digits declare, or one to ten where `most` is greater.
-fn declared_count(s: &[u8], most: usize) -> Declared
-    ensures { λ r. ⌜ r ≡ counted (numbers.declared (min most 10) (now (s .entry))) ⌝ }
-{
-    if is_digits(s, 1, at_most_ten(most)) {
-        Declared::Count(text::value(s))
-    } else {
-        Declared::Nothing
-    }
-}
-
-// As many digits as a value can be read from.
-fn at_most_ten(most: usize) -> usize
-    ensures { λ r. ⌜ r ≡ min most 10 ⌝ }
-{
-    if most < 10 { most } else { 10 }
-}
-
-// One to `most` digits declare the count n, where one to ten are read at most.
-fn declares(s: &[u8], most: usize, n: u64) -> bool
-    ensures { λ r. ⌜ r ≡ numbers.declares (min most 10) (now (s .entry)) n ⌝ }
-{
-    match declared_count(s, most) {
-        Declared::Count(m) => n == m,
-        Declared::Nothing => false,
-    }
-}
-
 // There is a trailer, and its control number is not that of the header, which is element n there.
 fn is_other_control(closed: bool, trailer: &[u8], header: &[u8], e: u8, n: usize) -> bool
     ensures { λ r. ⌜ r ≡ otherControl (cutting.field (split e (now (header .entry))) n) (trailerIf closed (split e (now (trailer .entry)))) ⌝ }
@@ -133,7 +98,7 @@ fn is_other_control(closed: bool, trailer: &[u8], header: &[u8], e: u8, n: usize
 fn is_other_count(closed: bool, trailer: &[u8], e: u8, most: usize, n: usize) -> bool
     ensures { λ r. ⌜ r ≡ otherCount (min most 10) n (trailerIf closed (split e (now (trailer .entry)))) ⌝ }
 {
-    closed && !declares(field(trailer, e, 1), most, n as u64)
+    closed && !text::declares(field(trailer, e, 1), most, n as u64)
 }
 
 // The codes of a set, by the bytes of its ST and SE; the trailer is read only where the set is closed. `segments` counts from ST to SE.
@@ -228,9 +193,9 @@ pub fn declared_sets(ge: &[u8], closed: bool, d: Delimiters, sets: usize) -> u64
     if !closed {
         return sets as u64;
     }
-    match declared_count(field(ge, e, 1), GE01_DIGITS) {
-        Declared::Count(n) => n,
-        Declared::Nothing => sets as u64,
+    match text::count_in(field(ge, e, 1), GE01_DIGITS) {
+        Count::Of(n) => n,
+        Count::Nothing => sets as u64,
     }
 }
 

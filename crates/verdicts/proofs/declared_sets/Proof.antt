@@ -1,8 +1,8 @@
 -- `verdicts::declared_sets` meets its contract.
-use Rattle.rules.specs.Numbers.{declared}
+use Rattle.rules.specs.Numbers.{countIn}
 use mathlib.Core.Path.{sym, _∙_}
 use borrow.Author.Tests.{not-true, not-false}
-use Rattle.verdicts.proofs.Laws.{counted-some, counted-none}
+use Rattle.text.proofs.Counts.{counted-some, counted-none}
 use borrow.Author.Needs.{needs}
 use Rattle.verdicts.proofs.declared_sets.Statement.{statement}
 use Rattle.verdicts.proofs.declared_sets.Tie as tie
@@ -13,8 +13,8 @@ returns c = rw (not-true (c .before .before .args .closed) (c .if1 .taken))
 field-requires : tie.Need-field-requires
 field-requires c κs = search needs
 
-declared-count-requires : tie.Need-declared-count-requires
-declared-count-requires c κs = search needs
+count-in-requires : tie.Need-count-in-requires
+count-in-requires c κs = search needs
 
 enum-known-n : tie.Need-enum-known-n
 enum-known-n c = search needs
@@ -25,14 +25,14 @@ enum-told c = search needs
 returns-2 : tie.Need-returns-2
 returns-2 c =
     let f = c .before .before .before .before in
-    let counts = sym (c .before .before .before .declared-count .ensures) ∙ c .before .n .given .1 in
-    rw (not-false (f .before .before .before .args .closed) (f .before .if1 .left), ← f .field .ensures, counted-some (declared 6 (f .field .result .now)) _ counts)
+    let counts = sym (c .before .before .before .count-in .ensures) ∙ c .before .n .given .1 in
+    rw (not-false (f .before .before .before .args .closed) (f .before .if1 .left), ← f .field .ensures, counted-some (countIn 6 (f .field .result .now)) _ counts)
 
 returns-3 : tie.Need-returns-3
 returns-3 c =
     let f = c .before .before .before in
-    let counts = sym (c .before .before .declared-count .ensures) ∙ c .enum-told .given .1 in
-    rw (not-false (f .before .before .before .args .closed) (f .before .if1 .left), ← f .field .ensures, counted-none (declared 6 (f .field .result .now)) counts)
+    let counts = sym (c .before .before .count-in .ensures) ∙ c .enum-told .given .1 in
+    rw (not-false (f .before .before .before .args .closed) (f .before .if1 .left), ← f .field .ensures, counted-none (countIn 6 (f .field .result .now)) counts)
 
 pub declared-sets-spec : {M : Type 1} → statement M
 declared-sets-spec =
@@ -40,7 +40,7 @@ declared-sets-spec =
     (tie.spec
     returns
     field-requires
-    declared-count-requires
+    count-in-requires
     enum-known-n
     enum-told
     returns-2
