@@ -99,10 +99,10 @@ short-of i u =
     leb-true (length i) 65536 (and-right (leb 106 (length i)) (leb (length i) 65536) (not-false _ long))
 
 -- the transaction set is a part of the response
-set-bound : (i : Bytes) → length i ≤ 65536
+set-bound : (i : Bytes) (call : Call) → length i ≤ 65536
     → length (out (delimiters i) (transactionSet (ascii "0001") (groupReport (delimiters i) (groupOf (segments (delimiters i) i))))) < 18446744073709551615
 unfolding response respond
-set-bound i h = let d = delimiters i in omega (arith, simp (out-cons d, length-out-append d) at (response-bound i 0 0 0 h))
+set-bound i call h = let d = delimiters i in omega (arith, simp (out-cons d, length-out-append d) at (response-bound i call h))
 
 -- with the rows of its edition it has all that the writer asks for
 pub answerable : (i : Bytes) (call : Call) {d : Delimiters} {f : Frame} {rows : Guide} {known : Bool}
@@ -118,7 +118,7 @@ answerable i call (e, w) q t =
         short = short;
         limits = t .limits;
         table = t .table;
-        bound = rw q (set-bound i short);
+        bound = rw q (set-bound i call short);
       },
     )
 

@@ -133,8 +133,8 @@ pub response-made : (call : Call) {d : Delimiters} {i gs : Bytes} {f : Frame} {n
     → From 0 (segmentOut d (isaOut d (isa i) call)) n₁ o o₁
     → From n₁ (segmentOut d (gsOut (split (d .element) gs) call)) n₂ o₁ o₂
     → From n₂ (out d (transactionSet (ascii "0001") (groupReport d (groupOf (segments d i))))) n₃ o₂ o₃
-    → From n₃ (segmentOut d (geOut 1 control)) n₄ o₃ o₄
-    → From n₄ (segmentOut d (ieaOut 1 control)) n₅ o₄ o₅
+    → From n₃ (segmentOut d (geOut 1 (call .control))) n₄ o₃ o₄
+    → From n₄ (segmentOut d (ieaOut 1 (call .control))) n₅ o₄ o₅
     → Wrote (response i call) n₅ o o₅
 unfolding response respond out
 response-made call {d} {i} e h p isa-out gs-out ts ge-out iea-out =
@@ -142,5 +142,5 @@ response-made call {d} {i} e h p isa-out gs-out ts ge-out iea-out =
     (whole
     (seq isa-out
     (seq (rw (p, ← ap (λ (g : Group). g .header) (h .group)) at gs-out)
-    (onward d (transactionSet (ascii "0001") (groupReport d (groupOf (segments d i)))) (geOut 1 control ∷ ieaOut 1 control ∷ []) ts
-    (seq ge-out (one d (ieaOut 1 control) iea-out))))))
+    (onward d (transactionSet (ascii "0001") (groupReport d (groupOf (segments d i)))) (geOut 1 (call .control) ∷ ieaOut 1 (call .control) ∷ []) ts
+    (seq ge-out (one d (ieaOut 1 (call .control)) iea-out))))))

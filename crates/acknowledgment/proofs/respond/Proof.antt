@@ -15,13 +15,13 @@ put-response-requires : tie.Need-put-response-requires
 put-response-requires c κs = let entry = c .before .before .before .before .before .before .before .before .before .before .before in (entry .pre .0, (entry .pre .1, rw (c .before .before .before .before .before .before .before .before .part .ensures) at (c .before .before .before .before .before .survey-sets .ensures)))
 
 returns : tie.Need-returns
-returns c = too-long _ (c .before .before .before .put-response .ensures) (response-bound _ _ _ _ (c .before .before .before .before .before .before .before .before .before .before .before .before .before .before .before .pre .1 .short)) (c .if1 .taken)
+returns c = too-long _ (c .before .before .before .put-response .ensures) (response-bound _ _ (c .before .before .before .before .before .before .before .before .before .before .before .before .before .before .before .pre .1 .short)) (c .if1 .taken)
 
 put-response-requires-2 : tie.Need-put-response-requires-2
 put-response-requires-2 c κs = let entry = c .before .before .before .before .before .before .before .before .before .before .before .before .before .before .before .before .before .before in (entry .pre .0, (entry .pre .1, rw (c .before .before .before .before .before .before .before .before .before .before .before .before .before .before .before .part .ensures) at (c .before .before .before .before .before .before .before .before .before .before .before .before .survey-sets .ensures)))
 
 returns-2 : tie.Need-returns-2
-returns-2 c = written _ (c .before .before .before .before .before .before .before .before .before .put-response .ensures) (response-bound _ _ _ _ (c .before .before .before .before .before .before .before .before .before .before .before .before .before .before .before .before .before .before .before .before .before .pre .1 .short)) (c .before .before .before .before .before .before .if1 .left) (c .before .before .put-response2 .ensures)
+returns-2 c = written _ (c .before .before .before .before .before .before .before .before .before .put-response .ensures) (response-bound _ _ (c .before .before .before .before .before .before .before .before .before .before .before .before .before .before .before .before .before .before .before .before .before .pre .1 .short)) (c .before .before .before .before .before .before .if1 .left) (c .before .before .put-response2 .ensures)
 
 pub respond-spec : {M : Type 1} → statement M
 respond-spec =
