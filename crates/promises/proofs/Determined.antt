@@ -447,7 +447,7 @@ first-line-put-refused-once κs a r₁ r₂ s₁ s₂ p q = wrote-once p q
 -- acknowledgment
 acknowledgment-acknowledge-once : Once acknowledgment-acknowledge.Post (λ κs r s. written r (now (s .1 .0)))
 acknowledgment-acknowledge-once κs a r₁ r₂ s₁ s₂ p q =
-    both-same (once-answer _ _ _ _ _ _ _ _ _ p q) (ap (λ (o : Outcome). o .buffer) (once _ _ _ _ _ _ _ _ _ p q))
+    both-same (once-answer _ _ _ _ _ _ _ p q) (ap (λ (o : Outcome). o .buffer) (once _ _ _ _ _ _ _ p q))
 
 acknowledgment-x12-acknowledge-once : Once acknowledgment-x12-acknowledge.Post (λ κs r s. outcome r (now (s .1 .1 .1 .1 .1 .0)) (now (s .1 .0)))
 acknowledgment-x12-acknowledge-once κs a r₁ r₂ s₁ s₂ p q = p ∙ sym q
