@@ -14,6 +14,8 @@ use Rattle.writing.specs.Over.{Wrote, From}
 use Rattle.notes.specs.Saying.{Tells}
 use Rattle.notes.specs.declared.Told.{Told}
 use Rattle.rules.proofs.Delimiters.new.Reads as rules-Delimiters-new
+use Rattle.rules.proofs.Delimiters.marks.Reads as rules-Delimiters-marks
+use Rattle.rules.proofs.Delimiters.is_mark.Reads as rules-Delimiters-is-mark
 use Rattle.rules.proofs.Finding.new.Reads as rules-Finding-new
 use Rattle.text.proofs.find.Reads as text-find
 use Rattle.text.proofs.find_near.Reads as text-find-near
@@ -32,23 +34,24 @@ use Rattle.text.proofs.is_text.Reads as text-is-text
 use Rattle.text.proofs.is_name.Reads as text-is-name
 use Rattle.text.proofs.unsigned.Reads as text-unsigned
 use Rattle.caller.proofs.call_refusal.Reads as caller-call-refusal
-use Rattle.isa.proofs.head_refusal.Reads as isa-head-refusal
+use Rattle.isa.proofs.read_isa.Reads as isa-read-isa
 use Rattle.isa.proofs.end_refusal.Reads as isa-end-refusal
-use Rattle.isa.proofs.delimiters.Reads as isa-delimiters
 use Rattle.isa.proofs.isa_field.Reads as isa-isa-field
 use Rattle.segments.proofs.field.Reads as segments-field
 use Rattle.segments.proofs.id.Reads as segments-id
 use Rattle.segments.proofs.is_named.Reads as segments-is-named
 use Rattle.segments.proofs.is_present.Reads as segments-is-present
 use Rattle.segments.proofs.field_count.Reads as segments-field-count
-use Rattle.envelope.proofs.frame_of.Reads as envelope-frame-of
-use Rattle.headers.proofs.trailer_refusal.Reads as headers-trailer-refusal
-use Rattle.headers.proofs.header_refusal.Reads as headers-header-refusal
-use Rattle.headers.proofs.answer_refusal.Reads as headers-answer-refusal
+use Rattle.envelope.proofs.TrailerFault.refusal.Reads as envelope-TrailerFault-refusal
+use Rattle.envelope.proofs.envelope_of.Reads as envelope-envelope-of
+use Rattle.envelope.proofs.trailer_fault.Reads as envelope-trailer-fault
+use Rattle.group_header.proofs.header_refusal.Reads as group-header-header-refusal
+use Rattle.group_header.proofs.answer_refusal.Reads as group-header-answer-refusal
 use Rattle.sets.proofs.next_set.Reads as sets-next-set
 use Rattle.text.proofs.part.Reads as text-part
 use Rattle.sets.proofs.set_refusal.Reads as sets-set-refusal
 use Rattle.register.proofs.search.Reads as register-search
+use Rattle.refusals.proofs.group_refusal.Reads as refusals-group-refusal
 use Rattle.refusals.proofs.check.Reads as refusals-check
 use Rattle.verdicts.proofs.Codes.is_empty.Reads as verdicts-Codes-is-empty
 use Rattle.verdicts.proofs.set_codes.Reads as verdicts-set-codes
@@ -146,6 +149,12 @@ outcome number size buffer = record { number = number; size = size; buffer = buf
 rules-Delimiters-new-once : Once rules-Delimiters-new.Post (λ κs r s. r)
 rules-Delimiters-new-once κs a r₁ r₂ s₁ s₂ p q = p ∙ sym q
 
+rules-Delimiters-marks-once : Once rules-Delimiters-marks.Post (λ κs r s. r)
+rules-Delimiters-marks-once κs a r₁ r₂ s₁ s₂ p q = p ∙ sym q
+
+rules-Delimiters-is-mark-once : Once rules-Delimiters-is-mark.Post (λ κs r s. r)
+rules-Delimiters-is-mark-once κs a r₁ r₂ s₁ s₂ p q = p ∙ sym q
+
 rules-Finding-new-once : Once rules-Finding-new.Post (λ κs r s. r)
 rules-Finding-new-once κs a r₁ r₂ s₁ s₂ p q = p ∙ sym q
 
@@ -203,14 +212,11 @@ caller-call-refusal-once : Once caller-call-refusal.Post (λ κs r s. r)
 caller-call-refusal-once κs a r₁ r₂ s₁ s₂ p q = p ∙ sym q
 
 -- isa
-isa-head-refusal-once : Once isa-head-refusal.Post (λ κs r s. r)
-isa-head-refusal-once κs a r₁ r₂ s₁ s₂ p q = p ∙ sym q
+isa-read-isa-once : Once isa-read-isa.Post (λ κs r s. r)
+isa-read-isa-once κs a r₁ r₂ s₁ s₂ p q = p ∙ sym q
 
 isa-end-refusal-once : Once isa-end-refusal.Post (λ κs r s. r)
 isa-end-refusal-once κs a r₁ r₂ s₁ s₂ p q = p ∙ sym q
-
-isa-delimiters-once : Once isa-delimiters.Post (λ κs r s. r)
-isa-delimiters-once κs a r₁ r₂ s₁ s₂ p q = p ∙ sym q
 
 isa-isa-field-once : Once isa-isa-field.Post (λ κs r s. now r)
 isa-isa-field-once κs a r₁ r₂ s₁ s₂ p q = p ∙ sym q
@@ -232,18 +238,21 @@ segments-field-count-once : Once segments-field-count.Post (λ κs r s. r)
 segments-field-count-once κs a r₁ r₂ s₁ s₂ p q = p ∙ sym q
 
 -- envelope
-envelope-frame-of-once : Once envelope-frame-of.Post (λ κs r s. r)
-envelope-frame-of-once κs a r₁ r₂ s₁ s₂ p q = p ∙ sym q
+envelope-TrailerFault-refusal-once : Once envelope-TrailerFault-refusal.Post (λ κs r s. r)
+envelope-TrailerFault-refusal-once κs a r₁ r₂ s₁ s₂ p q = p ∙ sym q
 
--- headers
-headers-trailer-refusal-once : Once headers-trailer-refusal.Post (λ κs r s. r)
-headers-trailer-refusal-once κs a r₁ r₂ s₁ s₂ p q = p ∙ sym q
+envelope-envelope-of-once : Once envelope-envelope-of.Post (λ κs r s. r)
+envelope-envelope-of-once κs a r₁ r₂ s₁ s₂ p q = p ∙ sym q
 
-headers-header-refusal-once : Once headers-header-refusal.Post (λ κs r s. r)
-headers-header-refusal-once κs a r₁ r₂ s₁ s₂ p q = p ∙ sym q
+envelope-trailer-fault-once : Once envelope-trailer-fault.Post (λ κs r s. r)
+envelope-trailer-fault-once κs a r₁ r₂ s₁ s₂ p q = p ∙ sym q
 
-headers-answer-refusal-once : Once headers-answer-refusal.Post (λ κs r s. r)
-headers-answer-refusal-once κs a r₁ r₂ s₁ s₂ p q = p ∙ sym q
+-- group_header
+group-header-header-refusal-once : Once group-header-header-refusal.Post (λ κs r s. r)
+group-header-header-refusal-once κs a r₁ r₂ s₁ s₂ p q = p ∙ sym q
+
+group-header-answer-refusal-once : Once group-header-answer-refusal.Post (λ κs r s. r)
+group-header-answer-refusal-once κs a r₁ r₂ s₁ s₂ p q = p ∙ sym q
 
 -- sets
 sets-next-set-once : Once sets-next-set.Post (λ κs r s. r)
@@ -260,6 +269,9 @@ register-search-once : Once register-search.Post (λ κs r s. r)
 register-search-once κs a r₁ r₂ s₁ s₂ p q = p ∙ sym q
 
 -- refusals
+refusals-group-refusal-once : Once refusals-group-refusal.Post (λ κs r s. r)
+refusals-group-refusal-once κs a r₁ r₂ s₁ s₂ p q = p ∙ sym q
+
 refusals-check-once : Once refusals-check.Post (λ κs r s. r)
 refusals-check-once κs a r₁ r₂ s₁ s₂ p q = p ∙ sym q
 

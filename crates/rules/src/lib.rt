@@ -1,5 +1,8 @@
 // The types that the code and the definitions of document 01 share. The definitions stand in specs/, the theorems on them in proofs/.
 ghost use mathlib.Core.Path.{_≡_};
+ghost use lib.Dec.{eqb};
+ghost use Rattle.rules.specs.Base.{any};
+ghost use Rattle.rules.specs.Cutting as cutting;
 
 // The names of segments, for what is read and for what is written.
 pub const ISA: [u8; 3] = *b"ISA";
@@ -56,6 +59,20 @@ impl Delimiters {
             component,
             terminator,
         }
+    }
+
+    // All of them.
+    pub fn marks(self) -> [u8; 3]
+        ensures { λ r. ⌜ r ≡ cutting.marks self ⌝ }
+    {
+        [self.element, self.component, self.terminator]
+    }
+
+    // The byte is one of them.
+    pub fn is_mark(self, b: u8) -> bool
+        ensures { λ r. ⌜ r ≡ any (eqb b) (cutting.marks self) ⌝ }
+    {
+        (b == self.element) | (b == self.component) | (b == self.terminator)
     }
 }
 
