@@ -2,7 +2,7 @@
 use mathlib.Core.Path.{_≡_, refl, sym, ap, subst, _∙_}
 use mathlib.Core.Bool.{Bool, true, false, _&&_, true≢false, false≢true}
 use mathlib.Core.List.{List, [], _∷_, _++_}
-use mathlib.Core.Option.{Option, none, some}
+use mathlib.Core.Option.{Option}
 use Prim.Native.Nat.{ℕ, _+_, _-_, _<_, _≤_}
 use native.Mathlib.Nat.{add-zero, sub-self}
 use native.Mathlib.Omega.{arith}
@@ -10,14 +10,13 @@ use borrow.Author.Tests.{ltb-true, ltb-false, le-leb, lt-leb, leb-true}
 use lib.Dec.{ltb, leb}
 use lib.ListN.{length, drop, getD}
 use lib.Seq.{getD-drop}
-use Rattle.rules.specs.Base.{Bytes, ascii, same, null, all, last, listed, first, if_then_else_}
+use Rattle.rules.specs.Base.{Bytes, ascii, same, null, all, last, listed, first}
 use Rattle.rules.specs.Cutting.{Segment, field, isNamed, pieces, split, segments}
 use Rattle.rules.specs.Groups.{groupOf, isGE}
 use Rattle.rules.specs.Refusals.{isEnvelope, enveloped, envelopeRules, hasTwo, closes, countsGroups, trailerRules}
 use Rattle.rules.specs.declared.Delimiters.{Delimiters}
 use Rattle.rules.proofs.Logic.{and-left, and-right, all-append}
 use Rattle.rules.proofs.SetLaws.{isOuter, Optional, missing, there}
-use Rattle.text.proofs.Search.{find-end}
 use Rattle.segments.proofs.Pieces.{WholePart, whole-empty, whole-next, pieces-at, pieces-none, segments-at, segments-none, segments-rest, segments-part}
 use Rattle.text.specs.Text.{part}
 use Rattle.envelope.specs.Places.{endOf, segmentAt, untilEnvelope, trailerAt, trailerIn, groupAt, envelopeAt, envelopeOf}

@@ -13,7 +13,7 @@ use Rattle.rules.specs.Base.{Bytes, ascii, same, if_then_else_}
 use Rattle.rules.specs.Cutting.{isNamed, pieces, split}
 use Rattle.rules.specs.Refusals.{isEnvelope}
 use Rattle.text.specs.Text.{indexOf, part}
-use Rattle.text.proofs.Search.{find-le, find-end}
+use Rattle.text.proofs.Search.{find-end}
 use Rattle.segments.proofs.Pieces.{pieces-at, pieces-none}
 use Rattle.rules.specs.Groups.{isGE}
 use Rattle.rules.specs.declared.Delimiters.{Delimiters}

@@ -7,8 +7,8 @@ use native.Mathlib.Omega.{arith}
 use borrow.Author.Tests.{eqb-true, eqb-false, ne-eqb}
 use lib.Dec.{eqb}
 use Rattle.rules.specs.Base.{Bytes, first, last}
-use Rattle.rules.specs.Cutting.{Segment, field, isa, delimiters, segments, split}
-use Rattle.rules.specs.Groups.{Group, groupOf}
+use Rattle.rules.specs.Cutting.{field, isa, delimiters, segments, split}
+use Rattle.rules.specs.Groups.{groupOf}
 use Rattle.rules.specs.Refusals.{callRules, headRules, endRules, envelopeRules, trailerRules, headerRules, answerRules, setRules, groupRules, refusal}
 use Rattle.rules.specs.declared.Call.{Call}
 use Rattle.rules.specs.declared.Delimiters.{Delimiters}
@@ -26,7 +26,6 @@ use Rattle.envelope.specs.declared.Enveloped.{Enveloped}
 use Rattle.envelope.specs.declared.Enveloped.the-variants.{Whole, Broken}
 use Rattle.envelope.proofs.Laws.{EnvelopeIs, whole-is, whole-passes, broken-refused, fault-number}
 use Rattle.refusals.specs.Checks.{innerRefusal, laterRefusal, soundIn, soundUnless, checkedWith, checked}
-use Rattle.refusals.specs.declared.Checked.{Checked}
 use Rattle.refusals.specs.declared.Checked.the-variants.{Sound, Refused}
 
 -- 1. The first that is not 0.

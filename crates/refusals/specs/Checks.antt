@@ -1,6 +1,6 @@
 -- What the checks of an interchange come to.
 use Prim.Native.Nat.{ℕ}
-use mathlib.Core.List.{List, [], _∷_}
+use mathlib.Core.List.{[], _∷_}
 use lib.Dec.{eqb}
 use Rattle.rules.specs.Base.{Bytes, first, last, if_then_else_}
 use Rattle.rules.specs.Cutting.{field, isa, delimiters, split, segments}
