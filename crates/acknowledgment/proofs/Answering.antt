@@ -28,8 +28,8 @@ use Rattle.tables.specs.Reading.{Guide, Limits}
 use Rattle.guides.specs.Encoded.{guide006010, guide004010}
 use Rattle.guides.proofs.Editions.{means-006010, means-004010, limits-006010, limits-004010}
 use Rattle.text.specs.Text.{part}
-use Rattle.envelope.specs.declared.Frame.{Frame}
-use Rattle.envelope.proofs.Laws.{FrameIs}
+use Rattle.envelope.specs.declared.GroupAt.{GroupAt}
+use Rattle.envelope.proofs.Laws.{GroupIs}
 use Rattle.sets.proofs.Refused.{passed}
 use Rattle.verdicts.specs.Verdicts.{editionIn}
 use Rattle.verdicts.specs.declared.Edition.{Edition}
@@ -37,7 +37,7 @@ use Rattle.verdicts.specs.declared.Edition.the-variants.{E006010, E004010, Othe
 use Rattle.verdicts.proofs.Laws.{table-in}
 use Rattle.refusals.specs.Checks.{checked}
 use Rattle.refusals.specs.declared.Checked.the-variants as checks
-use Rattle.refusals.proofs.Laws.{Unrefused, unrefused, sets-block, refused-due}
+use Rattle.refusals.proofs.Laws.{Unrefused, unrefused, refused-due}
 use Rattle.writing.specs.Over.{Wrote}
 use Rattle.writing.proofs.Over.{over-fits}
 use Rattle.writing.proofs.Laws.{measured, exact}
@@ -105,16 +105,16 @@ unfolding response respond
 set-bound i call h = let d = delimiters i in omega (arith, simp (out-cons d, length-out-append d) at (response-bound i call h))
 
 -- with the rows of its edition it has all that the writer asks for
-pub answerable : (i : Bytes) (call : Call) {d : Delimiters} {f : Frame} {rows : Guide} {known : Bool}
-    → (refusal i call ≡ 0) × FrameIs (delimiters i) i f → d ≡ delimiters i
+pub answerable : (i : Bytes) (call : Call) {d : Delimiters} {f : GroupAt} {rows : Guide} {known : Bool}
+    → (refusal i call ≡ 0) × ((d ≡ delimiters i) × GroupIs d i f)
     → Decides (split (d .element) (part i (f .gs) (f .«gs_end»))) rows known → (d ≡ delimiters i) × Answerable d i f rows known
-answerable i call (e, w) q t =
+answerable i call (e, (q, w)) t =
     let u = unrefused i call e in
     let short = short-of i u in (
       q,
       record {
-        frame = rw q w;
-        passed = rw q (passed _ _ (sets-block w refl ∙ u .sets));
+        place = w;
+        passed = passed _ _ (rw (← q, w .group) at (u .sets));
         short = short;
         limits = t .limits;
         table = t .table;

@@ -19,8 +19,9 @@ use Rattle.rules.proofs.Facts.{reports-count}
 use Rattle.rules.proofs.Lengths.{transaction-counted}
 use Rattle.tables.specs.Reading.{Guide}
 use Rattle.text.specs.Text.{part}
-use Rattle.envelope.specs.declared.Frame.{Frame}
-use Rattle.envelope.proofs.Laws.{trailerIn, FrameIs}
+use Rattle.envelope.specs.Places.{trailerIn}
+use Rattle.envelope.specs.declared.GroupAt.{GroupAt}
+use Rattle.envelope.proofs.Laws.{GroupIs}
 use Rattle.verdicts.specs.Collecting.{codesOf, collected}
 use Rattle.verdicts.specs.Verdicts.{trailerIf, groupCodeRules}
 use Rattle.verdicts.specs.declared.Codes.{Codes}
@@ -44,7 +45,7 @@ summary-made gs ge received ok p q r s = rw (s, q, r, p)
 
 -- 2. The transaction set.
 -- the group, by the bytes of its GS, its body and its GE
-group-at : {d : Delimiters} {i gs body ge : Bytes} {f : Frame} → FrameIs d i f
+group-at : {d : Delimiters} {i gs body ge : Bytes} {f : GroupAt} → GroupIs d i f
     → gs ≡ part i (f .gs) (f .«gs_end») → body ≡ part i (f .body) (f .«body_end») → ge ≡ part i (f .ge) (f .«ge_end»)
     → groupOf (segments d i)
     ≡ record { header = split (d .element) gs; body = segments d body; trailer = trailerIf (f .closed) (split (d .element) ge) }
@@ -55,7 +56,7 @@ group-at {d} {i} {f = f} h p q r = h .group ∙ rw (p, q, r, trailer-at (f .clos
     trailer-at false = refl
 
 -- what a look at the sets asks of the body
-pub sets-open : {d : Delimiters} {i body : Bytes} {f : Frame} {rows : Guide} {known : Bool} {starts marks : List ℕ}
+pub sets-open : {d : Delimiters} {i body : Bytes} {f : GroupAt} {rows : Guide} {known : Bool} {starts marks : List ℕ}
     → Answerable d i f rows known → body ≡ part i (f .body) (f .«body_end») → length starts ≡ 5462 → length marks ≡ 5462
     → Open d body rows starts marks
 sets-open a q l m = record {
@@ -75,7 +76,7 @@ told-is : (d : Delimiters) (st02 : Bytes) (g : Group) {table : Set → Option Ta
 unfolding told ak1 ak9 groupReport summary
 told-is d st02 g {table} e p q = rw (e, q, p, reports-count d table [] (sets g), group-codes g refl refl refl)
 
-module _ {d : Delimiters} {i gs body ge : Bytes} {f : Frame} {rows : Guide} {known : Bool} {starts marks : List ℕ} {survey : Survey} {t : Told} {x y : Bytes}
+module _ {d : Delimiters} {i gs body ge : Bytes} {f : GroupAt} {rows : Guide} {known : Bool} {starts marks : List ℕ} {survey : Survey} {t : Told} {x y : Bytes}
     (a : Answerable d i f rows known)
     (p : gs ≡ part i (f .gs) (f .«gs_end»)) (q : body ≡ part i (f .body) (f .«body_end»)) (r : ge ≡ part i (f .ge) (f .«ge_end»))
     (v : Surveyed d (tableWith known rows) body starts marks survey)
@@ -98,7 +99,7 @@ module _ {d : Delimiters} {i gs body ge : Bytes} {f : Frame} {rows : Guide} {kno
   -- ST to AK9, as the pieces are
   told-made : told st02 report ≡ stOut st02 ∷ (opening ∷ (setBlocks ++ closing ∷ []))
   told-made =
-      ap (λ (g : Group). told st02 (groupReport d g)) (group-at (a .frame) p q r)
+      ap (λ (g : Group). told st02 (groupReport d g)) (group-at (a .place) p q r)
       ∙ told-is d st02 _ (rw p (fun-ext (a .table))) (v .received) (v .allowed)
 
   -- SE01 is exact: segments are no more than their bytes, which a usize counts
@@ -128,8 +129,8 @@ module _ {d : Delimiters} {i gs body ge : Bytes} {f : Frame} {rows : Guide} {kno
       (one d (seOut (length (told st02 report) + 1) st02) (rw (told-counts k) at se))
 
 -- 3. The response, by its pieces.
-pub response-made : (call : Call) {d : Delimiters} {i gs : Bytes} {f : Frame} {n₁ n₂ n₃ n₄ n₅ : ℕ} {o o₁ o₂ o₃ o₄ o₅ : Bytes}
-    → d ≡ delimiters i → FrameIs d i f → gs ≡ part i (f .gs) (f .«gs_end»)
+pub response-made : (call : Call) {d : Delimiters} {i gs : Bytes} {f : GroupAt} {n₁ n₂ n₃ n₄ n₅ : ℕ} {o o₁ o₂ o₃ o₄ o₅ : Bytes}
+    → d ≡ delimiters i → GroupIs d i f → gs ≡ part i (f .gs) (f .«gs_end»)
     → From 0 (segmentOut d (isaOut d (isa i) call)) n₁ o o₁
     → From n₁ (segmentOut d (gsOut (split (d .element) gs) call)) n₂ o₁ o₂
     → From n₂ (out d (transactionSet (ascii "0001") (groupReport d (groupOf (segments d i))))) n₃ o₂ o₃

@@ -13,7 +13,7 @@ use lib.Seq.{take-suc-set, take-set-le, getD-set-same, getD-set-other}
 use Rattle.rules.specs.Base.{Bytes, keep, if_then_else_}
 use Rattle.rules.specs.Cutting.{Segment, field, split, segments}
 use Rattle.rules.specs.Tables.{Table}
-use Rattle.rules.specs.Sets.{Set, SetReport, setsOf, stray, accepted}
+use Rattle.rules.specs.Sets.{Set, SetReport, setsOf, outside, accepted}
 use Rattle.rules.specs.Groups.{acceptedIn}
 use Rattle.rules.specs.Response.{block}
 use Rattle.rules.specs.declared.Delimiters.{Delimiters}
@@ -78,7 +78,7 @@ pub record Seeing (d : Delimiters) (table : Set → Option Table) (body : Bytes)
   pub rest : drop k (reports d table body) ≡ left d table body (take k starts) at
   pub received : k + length (setsOf (segments d (drop at body))) ≡ length (setsOf (segments d body))
   pub allowed : a + acceptedIn (left d table body (take k starts) at) ≡ acceptedIn (reports d table body)
-  pub clean : stray false (segments d (drop at body)) ≡ false
+  pub clean : outside (segments d (drop at body)) ≡ false
   pub seen : (j : ℕ) → j < k → Seen d table body (take j starts) j (getD starts j 0) (getD marks j 0)
   pub entered : Entered d body starts links k
   pub few : length (setsOf (segments d body)) ≤ 5461

@@ -8,7 +8,7 @@ use lib.ListN.{length, take, drop, getD, set}
 use Rattle.rules.specs.Base.{Bytes, ascii, member, if_then_else_}
 use Rattle.rules.specs.Cutting.{Segment, field, segments}
 use Rattle.rules.specs.Tables.{Table}
-use Rattle.rules.specs.Sets.{Set, SetReport, setsOf, stray, controlOf, setReport, accepted}
+use Rattle.rules.specs.Sets.{Set, SetReport, setsOf, outside, controlOf, setReport, accepted}
 use Rattle.rules.specs.Groups.{setReports, acceptedIn}
 use Rattle.rules.specs.Response.{blocks}
 use Rattle.rules.specs.declared.Delimiters.{Delimiters}
@@ -66,7 +66,7 @@ acceptance s = (ascii "AK2" ∷ field (s .header) 1 ∷ controlOf s ∷ []) ∷ 
 -- Set k starts at a place and has this mark; those before it start at these places.
 pub record Seen (d : Delimiters) (table : Set → Option Table) (body : Bytes) (before : List ℕ) (k at mark : ℕ) : Type 0 where
   pub inside : at < length body
-  pub clean : stray false (segments d (drop at body)) ≡ false
+  pub clean : outside (segments d (drop at body)) ≡ false
   pub rest : drop k (reports d table body) ≡ left d table body before at
   pub marked : Marked d table body at (controlsAt d body before) mark
 

@@ -17,8 +17,8 @@ use Rattle.rules.specs.declared.Delimiters.{Delimiters}
 use Rattle.tables.specs.Reading.{Guide, Limits}
 use Rattle.guides.specs.Encoded.{directoryRows}
 use Rattle.text.specs.Text.{part}
-use Rattle.envelope.specs.declared.Frame.{Frame}
-use Rattle.envelope.proofs.Laws.{FrameIs}
+use Rattle.envelope.specs.declared.GroupAt.{GroupAt}
+use Rattle.envelope.proofs.Laws.{GroupIs}
 use Rattle.sets.proofs.Refused.{Passed}
 use Rattle.verdicts.specs.Collecting.{codesOf, collected}
 use Rattle.verdicts.specs.Verdicts.{groupCodeRules}
@@ -48,8 +48,8 @@ summary gs ge received ok =
     ∷ decimal (if same v (ascii "R") then 0 else ok) ∷ map decimal codes
 
 -- The group of an interchange, at its places, can be answered by the table of these rows, or by none.
-pub record Answerable (d : Delimiters) (i : Bytes) (f : Frame) (rows : Guide) (known : Bool) : Type 0 where
-  pub frame : FrameIs d i f
+pub record Answerable (d : Delimiters) (i : Bytes) (f : GroupAt) (rows : Guide) (known : Bool) : Type 0 where
+  pub place : GroupIs d i f
   pub passed : Passed d (segments d (part i (f .body) (f .«body_end»)))
   pub short : length i ≤ 65536
   pub limits : Limits rows

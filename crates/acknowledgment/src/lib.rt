@@ -13,7 +13,7 @@ ghost use Rattle.rules.specs.Answers.{Allowed, fitting, buffer, called};
 ghost use Rattle.tables.specs.Reading.{Limits};
 ghost use Rattle.guides.specs.Encoded.{directoryRows};
 ghost use Rattle.text.specs.Text.{part};
-ghost use Rattle.envelope.proofs.Laws.{FrameIs};
+ghost use Rattle.envelope.proofs.Laws.{GroupIs};
 ghost use Rattle.sets.specs.Places.{setAt, controlAt};
 ghost use Rattle.sets.proofs.Sets.{SetIs};
 ghost use Rattle.register.proofs.Entered.{Entered};
@@ -25,7 +25,7 @@ ghost use Rattle.writing.specs.Over.{Wrote, From};
 ghost use Rattle.notes.specs.Saying.{Tells};
 ghost use Rattle.acknowledgment.specs.Writers.{TellsFrom, Measures, tableWith, summary, Answerable};
 ghost use Rattle.acknowledgment.specs.Surveys.{Room, EnteredNext, setHere, reportAt, reports, markOf, Marked, acceptance, Surveyed, Open};
-use envelope::Frame;
+use envelope::GroupAt;
 use notes::Told;
 use refusals::Checked;
 use register::Found;
@@ -388,7 +388,7 @@ fn add_transaction_set(
     n: usize,
     i: &[u8],
     d: Delimiters,
-    f: Frame,
+    f: GroupAt,
     guide: &[[u16; 6]],
     known: bool,
     starts: &[u16],
@@ -415,7 +415,7 @@ fn put_response(
     out: &mut [u8],
     i: &[u8],
     d: Delimiters,
-    f: Frame,
+    f: GroupAt,
     guide: &[[u16; 6]],
     known: bool,
     starts: &[u16],
@@ -440,7 +440,7 @@ fn respond(
     out: &mut [u8],
     i: &[u8],
     d: Delimiters,
-    f: Frame,
+    f: GroupAt,
     guide: &[[u16; 6]],
     known: bool,
     call: Call,
@@ -471,11 +471,10 @@ fn respond(
 }
 
 // The answer to a sound interchange, by the table of the group's edition.
-fn answer_group(out: &mut [u8], i: &[u8], f: Frame, call: Call) -> Answer
-    requires { ⌜ (refusal (now i) call ≡ 0) × FrameIs (cutting.delimiters (now i)) (now i) f ⌝ }
+fn answer_group(out: &mut [u8], i: &[u8], d: Delimiters, f: GroupAt, call: Call) -> Answer
+    requires { ⌜ (refusal (now i) call ≡ 0) × ((d ≡ cutting.delimiters (now i)) × GroupIs d (now i) f) ⌝ }
     ensures { λ r. ⌜ Allowed (now (i .entry)) (now (out .entry)) call r (now (out .exit)) ⌝ }
 {
-    let d = isa::delimiters(i);
     let gs = text::part(i, f.gs, f.gs_end);
     let known = verdicts::is_supported(segments::field(gs, d.element, 1));
     match verdicts::edition_of(segments::field(gs, d.element, 8)) {
@@ -499,7 +498,10 @@ pub fn acknowledge(interchange: &[u8], response: &mut [u8], call: Call) -> Answe
     ensures { λ r. ⌜ Allowed (now (interchange .entry)) (now (response .entry)) call r (now (response .exit)) ⌝ }
 {
     match refusals::check(interchange, call) {
-        Checked::Sound(f) => answer_group(response, interchange, f, call),
+        Checked::Sound(d, envelope) => {
+            let group = envelope.group;
+            answer_group(response, interchange, d, group, call)
+        }
         Checked::Refused(n) => Answer::Refused(n),
     }
 }

@@ -2,7 +2,7 @@
 use mathlib.Core.Path.{_≡_, refl, sym, ap, _∙_}
 use mathlib.Core.Bool.{Bool, true, false, _&&_, not, true≢false}
 use mathlib.Core.List.{List, [], _∷_, _++_, append-nil, append-assoc}
-use mathlib.Core.Option.{Option, none}
+use mathlib.Core.Option.{Option}
 use borrow.Author.Tests.{not-true}
 use lib.ListN.{drop, getD}
 use Rattle.rules.specs.Base.{Bytes, ascii, same, null, all, any, front, last, listed, if_then_else_}

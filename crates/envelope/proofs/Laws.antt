@@ -1,8 +1,8 @@
--- What a frame is of its interchange: refusal 7 is due where it is broken, and where it is whole its parts are the group and IEA.
+-- What an envelope is of its interchange: refusal 7 is due where it is broken, and where it is whole its parts are the group and IEA.
 use mathlib.Core.Path.{_≡_, refl, sym, ap, subst, _∙_}
 use mathlib.Core.Bool.{Bool, true, false, _&&_, true≢false, false≢true}
 use mathlib.Core.List.{List, [], _∷_, _++_}
-use mathlib.Core.Option.{Option, none, some}
+use mathlib.Core.Option.{Option}
 use Prim.Native.Nat.{ℕ, _+_, _-_, _<_, _≤_}
 use native.Mathlib.Nat.{add-zero, sub-self}
 use native.Mathlib.Omega.{arith}
@@ -10,22 +10,23 @@ use borrow.Author.Tests.{ltb-true, ltb-false, le-leb, lt-leb, leb-true}
 use lib.Dec.{ltb, leb}
 use lib.ListN.{length, drop, getD}
 use lib.Seq.{getD-drop}
-use Rattle.rules.specs.Base.{Bytes, ascii, same, null, all, last, listed, first, if_then_else_}
+use Rattle.rules.specs.Base.{Bytes, ascii, same, null, all, last, listed, first}
 use Rattle.rules.specs.Cutting.{Segment, field, isNamed, pieces, split, segments}
 use Rattle.rules.specs.Groups.{groupOf, isGE}
-use Rattle.rules.specs.Refusals.{isEnvelope, enveloped, envelopeRules}
+use Rattle.rules.specs.Refusals.{isEnvelope, enveloped, envelopeRules, hasTwo, closes, countsGroups, trailerRules}
 use Rattle.rules.specs.declared.Delimiters.{Delimiters}
 use Rattle.rules.proofs.Logic.{and-left, and-right, all-append}
 use Rattle.rules.proofs.SetLaws.{isOuter, Optional, missing, there}
-use Rattle.text.proofs.Search.{find-end}
 use Rattle.segments.proofs.Pieces.{WholePart, whole-empty, whole-next, pieces-at, pieces-none, segments-at, segments-none, segments-rest, segments-part}
 use Rattle.text.specs.Text.{part}
-use Rattle.envelope.specs.Places.{endOf, segmentAt, inside, trailerAt, frameAt, frameOf}
-use Rattle.envelope.specs.declared.Frame.{Frame}
-use Rattle.envelope.specs.declared.Framed.{Framed}
+use Rattle.envelope.specs.Places.{endOf, segmentAt, untilEnvelope, trailerAt, trailerIn, groupAt, envelopeAt, envelopeOf}
+use Rattle.envelope.specs.Faults.{trailerFault, faultNumber}
+use Rattle.envelope.specs.declared.GroupAt.{GroupAt}
+use Rattle.envelope.specs.declared.Envelope.{Envelope}
+use Rattle.envelope.specs.declared.Enveloped.{Enveloped}
 use Rattle.envelope.specs.declared.Trailer.{Trailer}
-use Rattle.envelope.specs.declared.Framed.the-variants.{Whole, Broken}
-use Rattle.envelope.proofs.Places.{part-past, named-within, inside-here, inside-later, trailer-there, trailer-missing}
+use Rattle.envelope.specs.declared.Enveloped.the-variants.{Whole, Broken}
+use Rattle.envelope.proofs.Places.{part-past, named-within, until-here, until-later, trailer-there, trailer-missing}
 use Rattle.envelope.proofs.Closing.{afterGE, enveloped-by, group-made, last-made}
 
 -- 1. The segments from an offset on: the first, those after it, and whether there is one.
@@ -93,8 +94,8 @@ module _ (d : Delimiters) (i : Bytes) (start : ℕ) where
       }
 
   walk : (ps : List Bytes) (at : ℕ) → ps ≡ pieces (d .terminator) (drop at i) → Inside d i start at
-      → Stopped d i start (at + inside (d .element) (pieces (d .terminator) (drop at i)))
-  unfolding inside segments segmentAt
+      → Stopped d i start (at + untilEnvelope (d .element) (pieces (d .terminator) (drop at i)))
+  unfolding untilEnvelope segments segmentAt
   walk [] at q w = rw (← q, add-zero) (record { passed = w; stops = λ n. absurd (true≢false (rw (← q) at n)) })
   walk (p ∷ ps) at q w =
       let more = q ∙ pieces-at t i at (endOf d i at) here refl in
@@ -108,17 +109,17 @@ module _ (d : Delimiters) (i : Bytes) (start : ℕ) where
       here = some-within t i at p ps q
 
       go : (c : Bool) → isEnvelope (segmentAt d i at) ≡ c
-          → (Inside d i start (endOf d i at + 1) → Stopped d i start (endOf d i at + 1 + inside (d .element) (pieces t (drop (endOf d i at + 1) i))))
-          → Stopped d i start (at + inside (d .element) (pieces t (drop at i)))
+          → (Inside d i start (endOf d i at + 1) → Stopped d i start (endOf d i at + 1 + untilEnvelope (d .element) (pieces t (drop (endOf d i at + 1) i))))
+          → Stopped d i start (at + untilEnvelope (d .element) (pieces t (drop at i)))
       go true g next =
-          rw (inside-here (d .element) t i at (endOf d i at) here refl g)
+          rw (until-here (d .element) t i at (endOf d i at) here refl g)
           (record { passed = w; stops = λ n. rw (segments-from d i at here) g })
-      go false g next = rw (inside-later (d .element) t i at (endOf d i at) here refl g) (next (inside-next at here g w))
+      go false g next = rw (until-later (d .element) t i at (endOf d i at) here refl g) (next (inside-next at here g w))
 
-  stopped : Stopped d i start (start + inside (d .element) (pieces (d .terminator) (drop start i)))
+  stopped : Stopped d i start (start + untilEnvelope (d .element) (pieces (d .terminator) (drop start i)))
   stopped = walk (pieces (d .terminator) (drop start i)) start refl (inside-empty d i start)
 
--- 3. The tests of a frame are those of `enveloped`.
+-- 3. The tests of an envelope are those of `enveloped`.
 module _ (d : Delimiters) (i : Bytes) where
   after-at : (at : ℕ) → afterGE (segments d (drop at i)) ≡ segments d (drop (trailerAt d i at .next) i)
   unfolding trailerAt
@@ -135,7 +136,7 @@ module _ (d : Delimiters) (i : Bytes) where
   body = endOf d i gs + 1
 
   abbrev ge : ℕ
-  ge = body + inside (d .element) (pieces (d .terminator) (drop body i))
+  ge = body + untilEnvelope (d .element) (pieces (d .terminator) (drop body i))
 
   abbrev iea : ℕ
   iea = trailerAt d i ge .next
@@ -174,12 +175,7 @@ module _ (d : Delimiters) (i : Bytes) where
           ∙ rw (after-at ge, named-at d i iea (ascii "IEA"), rest-at d i iea, null-at d i (endOf d i iea + 1), g)
 
 -- 4. GE or nothing, and what follows.
-abbrev pub trailerIn : Delimiters → Bytes → ℕ → ℕ → Bool → Option Segment
-trailerIn d i at end closed = if closed then some (split (d .element) (part i at end)) else none
-
 record Trailed (d : Delimiters) (i : Bytes) (at : ℕ) (t : Trailer) : Type 0 where
-  ordered : at ≤ t .end
-  after : t .end ≤ t .next
   cut : segments d (drop at i) ≡ listed (trailerIn d i at (t .end) (t .closed)) ++ segments d (drop (t .next) i)
   named : Optional isGE (trailerIn d i at (t .end) (t .closed))
 
@@ -191,33 +187,22 @@ trailed d i at = go (isGE (segmentAt d i at)) refl
     go true g =
         rw (trailer-there d i at (endOf d i at) refl g)
         (record {
-          ordered = omega arith;
-          after = omega arith;
           cut = segments-from d i at (named-within (ascii "GE") (d .element) i at (endOf d i at) refl g);
           named = there g;
         })
     go false g =
         rw (trailer-missing d i at (endOf d i at) refl g)
-        (record { ordered = omega arith; after = omega arith; cut = refl; named = missing })
+        (record { cut = refl; named = missing })
 
--- 5. What a whole frame is.
-pub record FrameIs (d : Delimiters) (i : Bytes) (f : Frame) : Type 0 where
-  pub gs-ordered : f .gs ≤ f .«gs_end»
-  pub body-next : f .«gs_end» < f .body
-  pub body-ordered : f .body ≤ f .«body_end»
-  pub ge-next : f .«body_end» ≤ f .ge
-  pub ge-ordered : f .ge ≤ f .«ge_end»
-  pub iea-next : f .«ge_end» ≤ f .iea
-  pub iea-ordered : f .iea ≤ f .«iea_end»
-  pub within : f .«iea_end» ≤ length i
+-- 5. What a whole envelope is.
+-- The group of an interchange lies at a place.
+pub record GroupIs (d : Delimiters) (i : Bytes) (g : GroupAt) : Type 0 where
+  pub group : groupOf (segments d i) ≡ groupAt d i g
+
+pub record EnvelopeIs (d : Delimiters) (i : Bytes) (e : Envelope) : Type 0 where
   pub envelope : enveloped (segments d i) ≡ true
-  pub group : groupOf (segments d i)
-      ≡ record {
-        header = split (d .element) (part i (f .gs) (f .«gs_end»));
-        body = segments d (part i (f .body) (f .«body_end»));
-        trailer = trailerIn d i (f .ge) (f .«ge_end») (f .closed);
-      }
-  pub iea-last : last [] (segments d i) ≡ split (d .element) (part i (f .iea) (f .«iea_end»))
+  pub place : GroupIs d i (e .group)
+  pub trailer : last [] (segments d i) ≡ split (d .element) (part i (e .iea) (e .«iea_end»))
 
 -- the three tests passed
 module _ (d : Delimiters) (i : Bytes) (g : isNamed (ascii "GS") (segmentAt d i (gs d i)) ≡ true)
@@ -237,38 +222,32 @@ module _ (d : Delimiters) (i : Bytes) (g : isNamed (ascii "GS") (segmentAt d i (
       (trailed d i (ge d i) .cut ∙ ap (λ (m : List Segment). listed trailer ++ m)
       (segments-from d i (iea d i) iea-within ∙ ap (λ (m : List Segment). segmentAt d i (iea d i) ∷ m) (segments-none d i (endOf d i (iea d i) + 1) l)))
 
-  whole : FrameIs d i (frameAt (endOf d i 0) (endOf d i (gs d i)) (ge d i) (trailerAt d i (ge d i)) (endOf d i (iea d i)))
+  whole : EnvelopeIs d i (envelopeAt (endOf d i 0) (endOf d i (gs d i)) (ge d i) (trailerAt d i (ge d i)) (endOf d i (iea d i)))
   unfolding segmentAt
   whole =
       let t = trailed d i (ge d i) in
       let outer = stopped d i (body d i) .passed .outer in
       record {
-        gs-ordered = omega arith;
-        body-next = omega arith;
-        body-ordered = omega arith;
-        ge-next = omega arith;
-        ge-ordered = t .ordered;
-        iea-next = t .after;
-        iea-ordered = omega arith;
-        within = find-end _ _ _ _ refl iea-within;
         envelope = enveloped-is d i ∙ rw (g, e, le-leb (length i) (endOf d i (iea d i) + 1) l);
-        group =
-            ap groupOf parts
-            ∙ group-made (segmentAt d i 0) (segmentAt d i (gs d i)) (segmentAt d i (iea d i)) (segments d (part i (body d i) (ge d i))) outer (t .named);
-        iea-last =
+        place = record {
+          group =
+              ap groupOf parts
+              ∙ group-made (segmentAt d i 0) (segmentAt d i (gs d i)) (segmentAt d i (iea d i)) (segments d (part i (body d i) (ge d i))) outer (t .named);
+        };
+        trailer =
             ap (last []) parts
             ∙ last-made (segmentAt d i 0) (segmentAt d i (gs d i)) (segmentAt d i (iea d i)) (segments d (part i (body d i) (ge d i))) outer trailer;
       }
 
-abbrev Is : Delimiters → Bytes → Framed → Type 0
-Is d i (Whole f) = FrameIs d i f
+abbrev Is : Delimiters → Bytes → Enveloped → Type 0
+Is d i (Whole e) = EnvelopeIs d i e
 Is d i Broken = enveloped (segments d i) ≡ false
 
-frame-is : (d : Delimiters) (i : Bytes) → Is d i (frameOf d i)
-unfolding frameOf
-frame-is d i = go (tests d i) refl
+envelope-is : (d : Delimiters) (i : Bytes) → Is d i (envelopeOf d i)
+unfolding envelopeOf
+envelope-is d i = go (tests d i) refl
   where
-    go : (c : Bool) → tests d i ≡ c → Is d i (frameOf d i)
+    go : (c : Bool) → tests d i ≡ c → Is d i (envelopeOf d i)
     go false p = rw p (enveloped-is d i ∙ p)
     go true p =
         let named = isNamed (ascii "GS") (segmentAt d i (gs d i)) in
@@ -278,17 +257,29 @@ frame-is d i = go (tests d i) refl
         rw p
         (whole d i (and-left named closes both) (and-right named closes both) (leb-true (length i) (endOf d i (iea d i) + 1) (and-right (named && closes) ends p)))
 
-pub whole-is : (d : Delimiters) (i : Bytes) {f : Frame} → frameOf d i ≡ Whole f → FrameIs d i f
-whole-is d i p = subst (Is d i) p (frame-is d i)
+pub whole-is : (d : Delimiters) (i : Bytes) {e : Envelope} → envelopeOf d i ≡ Whole e → EnvelopeIs d i e
+whole-is d i p = subst (Is d i) p (envelope-is d i)
 
-pub broken-is : (d : Delimiters) (i : Bytes) → frameOf d i ≡ Broken → enveloped (segments d i) ≡ false
-broken-is d i p = subst (Is d i) p (frame-is d i)
+pub broken-is : (d : Delimiters) (i : Bytes) → envelopeOf d i ≡ Broken → enveloped (segments d i) ≡ false
+broken-is d i p = subst (Is d i) p (envelope-is d i)
 
 -- refusal 7
-pub whole-passes : (d : Delimiters) (i : Bytes) {f : Frame} → frameOf d i ≡ Whole f → first (envelopeRules (segments d i)) ≡ 0
+pub whole-passes : (d : Delimiters) (i : Bytes) {e : Envelope} → envelopeOf d i ≡ Whole e → first (envelopeRules (segments d i)) ≡ 0
 unfolding envelopeRules first
 whole-passes d i p = rw (whole-is d i p .envelope)
 
-pub broken-refused : (d : Delimiters) (i : Bytes) → frameOf d i ≡ Broken → first (envelopeRules (segments d i)) ≡ 7
+pub broken-refused : (d : Delimiters) (i : Bytes) → envelopeOf d i ≡ Broken → first (envelopeRules (segments d i)) ≡ 7
 unfolding envelopeRules first
 broken-refused d i p = rw (broken-is d i p)
+
+-- 6. Refusal 8: the number of the first fault of IEA is that of its rules.
+pub fault-number : (iea : Segment) (n : ℕ) (isa13 : Bytes) → faultNumber (trailerFault iea n isa13) ≡ first (trailerRules iea n isa13)
+unfolding trailerFault trailerRules first
+fault-number iea n isa13 = go (hasTwo iea) (closes iea isa13) (countsGroups n iea) refl refl refl
+  where
+    go : (a b c : Bool) → hasTwo iea ≡ a → closes iea isa13 ≡ b → countsGroups n iea ≡ c
+        → faultNumber (trailerFault iea n isa13) ≡ first (trailerRules iea n isa13)
+    go false b c p q r = rw p
+    go true false c p q r = rw (p, q)
+    go true true false p q r = rw (p, q, r)
+    go true true true p q r = rw (p, q, r)

@@ -2,17 +2,19 @@
 use Prim.Native.Nat.{ℕ, _+_}
 use mathlib.Core.Bool.{Bool, true, false, _&&_}
 use mathlib.Core.List.{List, [], _∷_}
+use mathlib.Core.Option.{Option, none, some}
 use lib.Dec.{leb}
 use lib.ListN.{length, drop}
 use Rattle.rules.specs.Base.{Bytes, ascii, member, if_then_else_}
-use Rattle.rules.specs.Cutting.{Segment, isNamed, pieces, split}
-use Rattle.rules.specs.Groups.{isGE}
+use Rattle.rules.specs.Cutting.{Segment, isNamed, pieces, split, segments}
+use Rattle.rules.specs.Groups.{Group, isGE}
 use Rattle.rules.specs.Refusals.{isEnvelope}
 use Rattle.rules.specs.declared.Delimiters.{Delimiters}
 use Rattle.text.specs.Text.{indexOf, part}
-use Rattle.envelope.specs.declared.Frame.{Frame}
-use Rattle.envelope.specs.declared.Framed.{Framed}
-use Rattle.envelope.specs.declared.Framed.the-variants.{Whole, Broken}
+use Rattle.envelope.specs.declared.GroupAt.{GroupAt}
+use Rattle.envelope.specs.declared.Envelope.{Envelope}
+use Rattle.envelope.specs.declared.Enveloped.{Enveloped}
+use Rattle.envelope.specs.declared.Enveloped.the-variants.{Whole, Broken}
 use Rattle.envelope.specs.declared.Trailer.{Trailer}
 
 -- where the segment that starts at an offset ends
@@ -27,9 +29,9 @@ abbrev pub isEnvelopeName : Bytes → Bool
 isEnvelopeName id = member id (ascii "ISA" ∷ ascii "GS" ∷ ascii "GE" ∷ ascii "IEA" ∷ [])
 
 -- how many bytes the pieces before the first of the envelope take, with their terminators
-unfoldable pub inside : ℕ → List Bytes → ℕ
-inside e [] = 0
-inside e (p ∷ ps) = let r = inside e ps in if isEnvelope (split e p) then 0 else length p + 1 + r
+unfoldable pub untilEnvelope : ℕ → List Bytes → ℕ
+untilEnvelope e [] = 0
+untilEnvelope e (p ∷ ps) = let r = untilEnvelope e ps in if isEnvelope (split e p) then 0 else length p + 1 + r
 
 -- GE or nothing at an offset
 unfoldable pub trailerAt : Delimiters → Bytes → ℕ → Trailer
@@ -37,28 +39,42 @@ trailerAt d i at =
     if isGE (segmentAt d i at) then record { end = endOf d i at; closed = true; next = endOf d i at + 1 }
     else record { end = at; closed = false; next = at }
 
--- the frame with the ends of ISA, GS and IEA, the end of the body, and what stands there
-abbrev pub frameAt : ℕ → ℕ → ℕ → Trailer → ℕ → Frame
-frameAt isa-end gs-end body-end trailer iea-end = record {
-  gs = isa-end + 1;
-  «gs_end» = gs-end;
-  body = gs-end + 1;
-  «body_end» = body-end;
-  ge = body-end;
-  «ge_end» = trailer .end;
-  closed = trailer .closed;
+-- the envelope with the ends of ISA, GS and IEA, the end of the body, and what stands there
+abbrev pub envelopeAt : ℕ → ℕ → ℕ → Trailer → ℕ → Envelope
+envelopeAt isa-end gs-end body-end trailer iea-end = record {
+  group = record {
+    gs = isa-end + 1;
+    «gs_end» = gs-end;
+    body = gs-end + 1;
+    «body_end» = body-end;
+    ge = body-end;
+    «ge_end» = trailer .end;
+    closed = trailer .closed;
+  };
   iea = trailer .next;
   «iea_end» = iea-end;
 }
 
 -- GS is the second segment; the first other segment of the envelope after it is IEA, or GE with IEA after it; nothing follows IEA
-unfoldable pub frameOf : Delimiters → Bytes → Framed
-frameOf d i =
+unfoldable pub envelopeOf : Delimiters → Bytes → Enveloped
+envelopeOf d i =
     let gs = endOf d i 0 + 1 in
     let body = endOf d i gs + 1 in
-    let ge = body + inside (d .element) (pieces (d .terminator) (drop body i)) in
+    let ge = body + untilEnvelope (d .element) (pieces (d .terminator) (drop body i)) in
     let trailer = trailerAt d i ge in
     let iea = trailer .next in
     if isNamed (ascii "GS") (segmentAt d i gs) && isNamed (ascii "IEA") (segmentAt d i iea) && leb (length i) (endOf d i iea + 1)
-    then Whole (frameAt (endOf d i 0) (endOf d i gs) ge trailer (endOf d i iea))
+    then Whole (envelopeAt (endOf d i 0) (endOf d i gs) ge trailer (endOf d i iea))
     else Broken
+
+-- the GE between two offsets, where the group has one
+abbrev pub trailerIn : Delimiters → Bytes → ℕ → ℕ → Bool → Option Segment
+trailerIn d i at end closed = if closed then some (split (d .element) (part i at end)) else none
+
+-- the group at a place
+abbrev pub groupAt : Delimiters → Bytes → GroupAt → Group
+groupAt d i g = record {
+  header = split (d .element) (part i (g .gs) (g .«gs_end»));
+  body = segments d (part i (g .body) (g .«body_end»));
+  trailer = trailerIn d i (g .ge) (g .«ge_end») (g .closed);
+}

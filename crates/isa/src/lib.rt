@@ -5,8 +5,9 @@ ghost use Prim.Native.Nat.{_<_};
 ghost use lib.ListN.{getD};
 ghost use Rattle.rules.specs.Base.{ascii, all, first, last, member};
 ghost use Rattle.rules.specs.Cutting as cutting;
-ghost use Rattle.rules.specs.Cutting.{field, isa, marks, separators, valid};
-ghost use Rattle.rules.specs.Refusals.{headRules, endRules, hasISA, plain, distinct, goodMarks, goodISA};
+ghost use Rattle.rules.specs.Cutting.{field, isa, separators, valid};
+ghost use Rattle.rules.specs.Refusals.{endRules, hasISA, plain, distinct, goodMarks, goodISA};
+ghost use Rattle.isa.specs.Delimited.{isaOf};
 use rules::Delimiters;
 use rules::Interchange;
 use text::all_valid;
@@ -43,34 +44,39 @@ const COMPONENT: usize = 104;
 
 const TERMINATOR: usize = 105;
 
+// What ISA gives: the delimiters of the interchange, or the number of the refusal.
+pub enum Isa {
+    Sound(Delimiters),
+    Refused(u8),
+}
+
 // Refusals 2 to 5: the length of the interchange, and its ISA.
-pub fn head_refusal(i: &[u8]) -> u8
-    ensures { λ r. ⌜ r ≡ first (headRules (now (i .entry))) ⌝ }
+pub fn read_isa(i: &[u8]) -> Isa
+    ensures { λ r. ⌜ r ≡ isaOf (now (i .entry)) ⌝ }
 {
     if i.len() < Interchange::SHORTEST {
-        return 2;
+        return Isa::Refused(2);
     }
     if Interchange::LONGEST < i.len() {
-        return 2;
+        return Isa::Refused(2);
     }
     if !has_isa(i) {
-        return 3;
+        return Isa::Refused(3);
     }
     let d = delimiters(i);
-    if !are_good_marks(d) {
-        return 4;
+    if !are_good_marks(&d.marks()) {
+        return Isa::Refused(4);
     }
     if !is_good_isa(i, d) {
-        return 5;
+        return Isa::Refused(5);
     }
-    0
+    Isa::Sound(d)
 }
 
 // Refusal 6: the last byte ends a segment.
-pub fn end_refusal(i: &[u8]) -> u8
-    ensures { λ r. ⌜ r ≡ first (endRules (now (i .entry))) ⌝ }
+pub fn end_refusal(i: &[u8], d: Delimiters) -> u8
+    ensures { λ r. ⌜ r ≡ first (endRules d (now (i .entry))) ⌝ }
 {
-    let d = delimiters(i);
     if last_byte(i) != d.terminator {
         return 6;
     }
@@ -78,7 +84,7 @@ pub fn end_refusal(i: &[u8]) -> u8
 }
 
 // The delimiters that the interchange brings, each 0 where it is too short.
-pub fn delimiters(i: &[u8]) -> Delimiters
+fn delimiters(i: &[u8]) -> Delimiters
     ensures { λ r. ⌜ r ≡ cutting.delimiters (now (i .entry)) ⌝ }
 {
     Delimiters::new(
@@ -119,31 +125,37 @@ fn has_isa(i: &[u8]) -> bool
     true
 }
 
-fn are_good_marks(d: Delimiters) -> bool
-    ensures { λ r. ⌜ r ≡ goodMarks (marks d) ⌝ }
+fn are_good_marks(marks: &[u8]) -> bool
+    ensures { λ r. ⌜ r ≡ goodMarks (now (marks .entry)) ⌝ }
 {
-    if !are_distinct(d) {
-        return false;
-    }
-    if !is_plain(d.element) {
-        return false;
-    }
-    if !is_plain(d.component) {
-        return false;
-    }
-    is_plain(d.terminator)
+    are_distinct(marks) && are_plain(marks)
 }
 
-fn are_distinct(d: Delimiters) -> bool
-    ensures { λ r. ⌜ r ≡ distinct (marks d) ⌝ }
+// No two are the same.
+fn are_distinct(bytes: &[u8]) -> bool
+    ensures { λ r. ⌜ r ≡ distinct (now (bytes .entry)) ⌝ }
 {
-    if d.element == d.component {
-        return false;
+    let mut k = 0;
+    while k < bytes.len() {
+        if text::find(bytes, k + 1, bytes[k]) < bytes.len() {
+            return false;
+        }
+        k += 1;
     }
-    if d.element == d.terminator {
-        return false;
+    true
+}
+
+fn are_plain(bytes: &[u8]) -> bool
+    ensures { λ r. ⌜ r ≡ all plain (now (bytes .entry)) ⌝ }
+{
+    let mut k = 0;
+    while k < bytes.len() {
+        if !is_plain(bytes[k]) {
+            return false;
+        }
+        k += 1;
     }
-    d.component != d.terminator
+    true
 }
 
 // No letter, digit or space.

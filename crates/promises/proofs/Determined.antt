@@ -14,6 +14,8 @@ use Rattle.writing.specs.Over.{Wrote, From}
 use Rattle.notes.specs.Saying.{Tells}
 use Rattle.notes.specs.declared.Told.{Told}
 use Rattle.rules.proofs.Delimiters.new.Reads as rules-Delimiters-new
+use Rattle.rules.proofs.Delimiters.marks.Reads as rules-Delimiters-marks
+use Rattle.rules.proofs.Delimiters.is_mark.Reads as rules-Delimiters-is-mark
 use Rattle.rules.proofs.Finding.new.Reads as rules-Finding-new
 use Rattle.text.proofs.find_near.Reads as text-find-near
 use Rattle.text.proofs.find.Reads as text-find
@@ -33,22 +35,23 @@ use Rattle.text.proofs.is_text.Reads as text-is-text
 use Rattle.text.proofs.is_name.Reads as text-is-name
 use Rattle.text.proofs.unsigned.Reads as text-unsigned
 use Rattle.caller.proofs.call_refusal.Reads as caller-call-refusal
-use Rattle.isa.proofs.head_refusal.Reads as isa-head-refusal
+use Rattle.isa.proofs.read_isa.Reads as isa-read-isa
 use Rattle.isa.proofs.end_refusal.Reads as isa-end-refusal
-use Rattle.isa.proofs.delimiters.Reads as isa-delimiters
 use Rattle.isa.proofs.isa_field.Reads as isa-isa-field
 use Rattle.segments.proofs.field.Reads as segments-field
 use Rattle.segments.proofs.id.Reads as segments-id
 use Rattle.segments.proofs.is_named.Reads as segments-is-named
 use Rattle.segments.proofs.is_present.Reads as segments-is-present
 use Rattle.segments.proofs.field_count.Reads as segments-field-count
-use Rattle.envelope.proofs.frame_of.Reads as envelope-frame-of
-use Rattle.headers.proofs.trailer_refusal.Reads as headers-trailer-refusal
-use Rattle.headers.proofs.header_refusal.Reads as headers-header-refusal
-use Rattle.headers.proofs.answer_refusal.Reads as headers-answer-refusal
+use Rattle.envelope.proofs.TrailerFault.refusal.Reads as envelope-TrailerFault-refusal
+use Rattle.envelope.proofs.envelope_of.Reads as envelope-envelope-of
+use Rattle.envelope.proofs.trailer_fault.Reads as envelope-trailer-fault
+use Rattle.group_header.proofs.header_refusal.Reads as group-header-header-refusal
+use Rattle.group_header.proofs.answer_refusal.Reads as group-header-answer-refusal
 use Rattle.sets.proofs.next_set.Reads as sets-next-set
 use Rattle.sets.proofs.set_refusal.Reads as sets-set-refusal
 use Rattle.register.proofs.search.Reads as register-search
+use Rattle.refusals.proofs.group_refusal.Reads as refusals-group-refusal
 use Rattle.refusals.proofs.check.Reads as refusals-check
 use Rattle.verdicts.proofs.Codes.is_empty.Reads as verdicts-Codes-is-empty
 use Rattle.verdicts.proofs.set_codes.Reads as verdicts-set-codes
@@ -144,6 +147,12 @@ both-same p q = rw (p, q)
 rules-Delimiters-new-once : Determined rules-Delimiters-new.Pre rules-Delimiters-new.Post (λ κs r s. r)
 rules-Delimiters-new-once = ((λ κs a. tt), λ κs a r₁ r₂ s₁ s₂ p q. p ∙ sym q)
 
+rules-Delimiters-marks-once : Determined rules-Delimiters-marks.Pre rules-Delimiters-marks.Post (λ κs r s. r)
+rules-Delimiters-marks-once = ((λ κs a. tt), λ κs a r₁ r₂ s₁ s₂ p q. p ∙ sym q)
+
+rules-Delimiters-is-mark-once : Determined rules-Delimiters-is-mark.Pre rules-Delimiters-is-mark.Post (λ κs r s. r)
+rules-Delimiters-is-mark-once = ((λ κs a. tt), λ κs a r₁ r₂ s₁ s₂ p q. p ∙ sym q)
+
 rules-Finding-new-once : Determined rules-Finding-new.Pre rules-Finding-new.Post (λ κs r s. r)
 rules-Finding-new-once = ((λ κs a. tt), λ κs a r₁ r₂ s₁ s₂ p q. p ∙ sym q)
 
@@ -204,14 +213,11 @@ caller-call-refusal-once : Determined caller-call-refusal.Pre caller-call-refusa
 caller-call-refusal-once = ((λ κs a. tt), λ κs a r₁ r₂ s₁ s₂ p q. p ∙ sym q)
 
 -- isa
-isa-head-refusal-once : Determined isa-head-refusal.Pre isa-head-refusal.Post (λ κs r s. r)
-isa-head-refusal-once = ((λ κs a. tt), λ κs a r₁ r₂ s₁ s₂ p q. p ∙ sym q)
+isa-read-isa-once : Determined isa-read-isa.Pre isa-read-isa.Post (λ κs r s. r)
+isa-read-isa-once = ((λ κs a. tt), λ κs a r₁ r₂ s₁ s₂ p q. p ∙ sym q)
 
 isa-end-refusal-once : Determined isa-end-refusal.Pre isa-end-refusal.Post (λ κs r s. r)
 isa-end-refusal-once = ((λ κs a. tt), λ κs a r₁ r₂ s₁ s₂ p q. p ∙ sym q)
-
-isa-delimiters-once : Determined isa-delimiters.Pre isa-delimiters.Post (λ κs r s. r)
-isa-delimiters-once = ((λ κs a. tt), λ κs a r₁ r₂ s₁ s₂ p q. p ∙ sym q)
 
 isa-isa-field-once : Determined isa-isa-field.Pre isa-isa-field.Post (λ κs r s. now r)
 isa-isa-field-once = ((λ κs a. tt), λ κs a r₁ r₂ s₁ s₂ p q. p ∙ sym q)
@@ -233,18 +239,21 @@ segments-field-count-once : Determined segments-field-count.Pre segments-field-c
 segments-field-count-once = ((λ κs a. tt), λ κs a r₁ r₂ s₁ s₂ p q. p ∙ sym q)
 
 -- envelope
-envelope-frame-of-once : Determined envelope-frame-of.Pre envelope-frame-of.Post (λ κs r s. r)
-envelope-frame-of-once = ((λ κs a. tt), λ κs a r₁ r₂ s₁ s₂ p q. p ∙ sym q)
+envelope-TrailerFault-refusal-once : Determined envelope-TrailerFault-refusal.Pre envelope-TrailerFault-refusal.Post (λ κs r s. r)
+envelope-TrailerFault-refusal-once = ((λ κs a. tt), λ κs a r₁ r₂ s₁ s₂ p q. p ∙ sym q)
 
--- headers
-headers-trailer-refusal-once : Determined headers-trailer-refusal.Pre headers-trailer-refusal.Post (λ κs r s. r)
-headers-trailer-refusal-once = ((λ κs a. tt), λ κs a r₁ r₂ s₁ s₂ p q. p ∙ sym q)
+envelope-envelope-of-once : Determined envelope-envelope-of.Pre envelope-envelope-of.Post (λ κs r s. r)
+envelope-envelope-of-once = ((λ κs a. tt), λ κs a r₁ r₂ s₁ s₂ p q. p ∙ sym q)
 
-headers-header-refusal-once : Determined headers-header-refusal.Pre headers-header-refusal.Post (λ κs r s. r)
-headers-header-refusal-once = ((λ κs a. tt), λ κs a r₁ r₂ s₁ s₂ p q. p ∙ sym q)
+envelope-trailer-fault-once : Determined envelope-trailer-fault.Pre envelope-trailer-fault.Post (λ κs r s. r)
+envelope-trailer-fault-once = ((λ κs a. tt), λ κs a r₁ r₂ s₁ s₂ p q. p ∙ sym q)
 
-headers-answer-refusal-once : Determined headers-answer-refusal.Pre headers-answer-refusal.Post (λ κs r s. r)
-headers-answer-refusal-once = ((λ κs a. tt), λ κs a r₁ r₂ s₁ s₂ p q. p ∙ sym q)
+-- group_header
+group-header-header-refusal-once : Determined group-header-header-refusal.Pre group-header-header-refusal.Post (λ κs r s. r)
+group-header-header-refusal-once = ((λ κs a. tt), λ κs a r₁ r₂ s₁ s₂ p q. p ∙ sym q)
+
+group-header-answer-refusal-once : Determined group-header-answer-refusal.Pre group-header-answer-refusal.Post (λ κs r s. r)
+group-header-answer-refusal-once = ((λ κs a. tt), λ κs a r₁ r₂ s₁ s₂ p q. p ∙ sym q)
 
 -- sets
 sets-next-set-once : Determined sets-next-set.Pre sets-next-set.Post (λ κs r s. r)
@@ -258,6 +267,9 @@ register-search-once : Determined register-search.Pre register-search.Post (λ �
 register-search-once = ((λ κs a. tt), λ κs a r₁ r₂ s₁ s₂ p q. p ∙ sym q)
 
 -- refusals
+refusals-group-refusal-once : Determined refusals-group-refusal.Pre refusals-group-refusal.Post (λ κs r s. r)
+refusals-group-refusal-once = ((λ κs a. tt), λ κs a r₁ r₂ s₁ s₂ p q. p ∙ sym q)
+
 refusals-check-once : Determined refusals-check.Pre refusals-check.Post (λ κs r s. r)
 refusals-check-once = ((λ κs a. tt), λ κs a r₁ r₂ s₁ s₂ p q. p ∙ sym q)
 

@@ -1,4 +1,4 @@
--- The first number that is not 0, block by block, and the blocks over the parts of a frame.
+-- The first number that is not 0, stage by stage, and what the checks answer.
 use mathlib.Core.Path.{_≡_, refl, sym, _∙_, ap}
 use mathlib.Core.Bool.{Bool, true, false}
 use mathlib.Core.List.{List, [], _∷_}
@@ -7,23 +7,25 @@ use native.Mathlib.Omega.{arith}
 use borrow.Author.Tests.{eqb-true, eqb-false, ne-eqb}
 use lib.Dec.{eqb}
 use Rattle.rules.specs.Base.{Bytes, first, last}
-use Rattle.rules.specs.Cutting.{Segment, field, isa, delimiters, segments, split}
-use Rattle.rules.specs.Groups.{Group, groupOf}
-use Rattle.rules.specs.Refusals.{callRules, headRules, endRules, envelopeRules, trailerRules, groupRules, answerRules, setRules, refusal}
+use Rattle.rules.specs.Cutting.{field, isa, delimiters, segments, split}
+use Rattle.rules.specs.Groups.{groupOf}
+use Rattle.rules.specs.Refusals.{callRules, headRules, endRules, envelopeRules, trailerRules, headerRules, answerRules, setRules, groupRules, refusal}
 use Rattle.rules.specs.declared.Call.{Call}
 use Rattle.rules.specs.declared.Delimiters.{Delimiters}
-use Rattle.rules.proofs.Facts.{firstOf, refusal-blocks}
+use Rattle.rules.proofs.Facts.{firstOf, refusal-blocks, group-blocks}
+use Rattle.isa.specs.Delimited.{isaOf}
+use Rattle.isa.specs.declared.Isa.the-variants as isas
+use Rattle.isa.proofs.Reading.{isa-sound, isa-refused}
 use Rattle.text.specs.Text.{part}
-use Rattle.envelope.specs.Places.{frameOf}
-use Rattle.envelope.specs.declared.Frame.{Frame}
-use Rattle.envelope.specs.declared.Framed.{Framed}
-use Rattle.envelope.specs.declared.Framed.the-variants.{Whole, Broken}
-use Rattle.envelope.proofs.Laws.{FrameIs, whole-is, whole-passes, broken-refused}
-use Rattle.headers.specs.Rules.{headerRules, acknowledgmentRules}
-use Rattle.headers.proofs.Laws.{header-rules, acknowledgment-rules}
-use Rattle.sets.specs.Groups.{setRefusal}
-use Rattle.sets.proofs.Refused.{refusal-of}
-use Rattle.refusals.specs.Checks.{innerRefusal, soundIn, checked}
+use Rattle.envelope.specs.Places.{groupAt, envelopeOf}
+use Rattle.envelope.specs.Faults.{trailerFault, faultNumber}
+use Rattle.envelope.specs.declared.GroupAt.{GroupAt}
+use Rattle.envelope.specs.declared.TrailerFault.{TrailerFault}
+use Rattle.envelope.specs.declared.Envelope.{Envelope}
+use Rattle.envelope.specs.declared.Enveloped.{Enveloped}
+use Rattle.envelope.specs.declared.Enveloped.the-variants.{Whole, Broken}
+use Rattle.envelope.proofs.Laws.{EnvelopeIs, whole-is, whole-passes, broken-refused, fault-number}
+use Rattle.refusals.specs.Checks.{innerRefusal, laterRefusal, soundIn, soundUnless, checkedWith, checked}
 use Rattle.refusals.specs.declared.Checked.the-variants.{Sound, Refused}
 
 -- 1. The first that is not 0.
@@ -57,96 +59,136 @@ clear (n ∷ ns) e = go (eqb n 0) refl (clear ns)
     go true p rest = (eqb-true n 0 p, rest (rw p at e))
     go false p rest = absurd (eqb-false n 0 p (rw p at e))
 
--- the blocks of an interchange without a refusal, those that say something to who answers it
+-- the stages of an interchange without a refusal, those that say something to who answers it
 pub record Unrefused (i : Bytes) : Type 0 where
   pub head : first (headRules i) ≡ 0
   pub envelope : first (envelopeRules (segments (delimiters i) i)) ≡ 0
-  pub sets : first (setRules (delimiters i) (groupOf (segments (delimiters i) i))) ≡ 0
+  pub sets : first (setRules (delimiters i) (groupOf (segments (delimiters i) i) .body)) ≡ 0
 
 pub unrefused : (i : Bytes) (call : Call) → refusal i call ≡ 0 → Unrefused i
 unrefused i call e =
-    let blocks = clear _ (sym (refusal-blocks i call) ∙ e) in
-    record { head = blocks .1 .0; envelope = blocks .1 .1 .1 .0; sets = blocks .1 .1 .1 .1 .1 .1 .1 .0 }
+    let stages = clear _ (sym (refusal-blocks i call) ∙ e) in
+    let group = clear _ (sym (group-blocks (delimiters i) (groupOf (segments (delimiters i) i))) ∙ stages .1 .1 .1 .1 .1 .0) in
+    record { head = stages .1 .0; envelope = stages .1 .1 .1 .0; sets = group .1 .1 .0 }
 
--- 2. The blocks over the parts of a frame.
-module _ {d : Delimiters} {i : Bytes} {f : Frame} (w : FrameIs d i f) where
-  pub trailer-block : {n : ℕ} {x : Bytes} → x ≡ field (isa i) 13 → n ≡ first (trailerRules (split (d .element) (part i (f .iea) (f .«iea_end»))) 1 x)
-      → n ≡ first (trailerRules (last [] (segments d i)) 1 (field (isa i) 13))
-  trailer-block {n} {x} e p = p ∙ rw (e, w .iea-last)
+-- 2. Refusals 8 to 13, by the bytes at their places.
+module _ (d : Delimiters) (i : Bytes) {n : ℕ} where
+  pub trailer-stage : (e : Envelope) {iea isa13 : Bytes} {f : TrailerFault} → n ≡ faultNumber f → f ≡ trailerFault (split (d .element) iea) 1 isa13
+      → iea ≡ part i (e .iea) (e .«iea_end») → isa13 ≡ field (isa i) 13
+      → n ≡ first (trailerRules (split (d .element) (part i (e .iea) (e .«iea_end»))) 1 (field (isa i) 13))
+  trailer-stage e p q r s = p ∙ ap faultNumber q ∙ fault-number _ 1 _ ∙ rw (r, s)
 
-  pub header-block : {n : ℕ} → n ≡ first (headerRules d (split (d .element) (part i (f .gs) (f .«gs_end»))))
-      → n ≡ first (groupRules d (groupOf (segments d i)))
-  header-block p = p ∙ rw (w .group, header-rules)
+  pub header-stage : (g : GroupAt) {gs : Bytes} → gs ≡ part i (g .gs) (g .«gs_end») → n ≡ first (headerRules d (split (d .element) gs))
+      → n ≡ first (headerRules d (groupAt d i g .header))
+  header-stage g q p = p ∙ rw q
 
-  pub answer-block : {n : ℕ} → n ≡ first (acknowledgmentRules (split (d .element) (part i (f .gs) (f .«gs_end»))))
-      → n ≡ first (answerRules (groupOf (segments d i)))
-  answer-block p = p ∙ rw (w .group, acknowledgment-rules)
+  pub answer-stage : (g : GroupAt) {gs : Bytes} → gs ≡ part i (g .gs) (g .«gs_end») → n ≡ first (answerRules (split (d .element) gs))
+      → n ≡ first (answerRules (groupAt d i g .header))
+  answer-stage g q p = p ∙ rw q
 
-  pub sets-block : {n : ℕ} → n ≡ setRefusal d (segments d (part i (f .body) (f .«body_end»)))
-      → n ≡ first (setRules d (groupOf (segments d i)))
-  sets-block p = p ∙ rw (w .group, refusal-of)
+  pub sets-stage : (g : GroupAt) {body : Bytes} → body ≡ part i (g .body) (g .«body_end») → n ≡ first (setRules d (segments d body))
+      → n ≡ first (setRules d (groupAt d i g .body))
+  sets-stage g q p = p ∙ rw q
 
--- 3. The answer of the checks.
+-- 3. Refusals 6 to 13.
+-- what is read at the places of an envelope is what the law reads
+inner-is : {d : Delimiters} {i : Bytes} {e : Envelope} → EnvelopeIs d i e
+    → innerRefusal d i e
+    ≡ firstOf (
+    first (trailerRules (last [] (segments d i)) 1 (field (isa i) 13))
+    ∷ (first (groupRules d (groupOf (segments d i)))
+    ∷ []))
+unfolding innerRefusal
+inner-is w = rw (w .trailer, w .place .group)
+
+-- the refusal decides
+unless-refused : (d : Delimiters) (i : Bytes) {n m : ℕ} → m ≡ n → (m ≡ 0 → ⊥) → Refused m ≡ soundUnless n d i
+unless-refused d i {m = m} e h = rw (← e, ne-eqb m 0 h)
+
+unless-sound : (d : Delimiters) (i : Bytes) {n : ℕ} {e : Envelope} → 0 ≡ n → envelopeOf d i ≡ Whole e → Sound d e ≡ soundUnless n d i
+unless-sound d i z w = rw (← z, w)
+
+module _ (d : Delimiters) (i : Bytes) {n : ℕ} (p : n ≡ first (endRules d i)) where
+  pub end-refused : (n ≡ 0 → ⊥) → Refused n ≡ checkedWith d i
+  unfolding checkedWith laterRefusal
+  end-refused h = unless-refused _ _ (here _ p h) h
+
+  module _ (p₀ : n ≡ 0) where
+    pub broken : envelopeOf d i ≡ Broken → Refused 7 ≡ checkedWith d i
+    unfolding checkedWith laterRefusal
+    broken w =
+        unless-refused _ _ (onward _ p p₀ (here _ (sym (broken-refused d i w)) (λ z. absurd (omega arith)))) (λ z. absurd (omega arith))
+
+    -- past the envelope, what lies in it decides
+    inner-decides : {m : ℕ} {e : Envelope} → envelopeOf d i ≡ Whole e → m ≡ innerRefusal d i e → m ≡ laterRefusal d i
+    unfolding laterRefusal
+    inner-decides w q = onward _ p p₀ (onward _ (sym (whole-passes d i w)) refl (q ∙ inner-is (whole-is d i w)))
+
+    pub inner-refused : {m : ℕ} {e : Envelope} → envelopeOf d i ≡ Whole e → m ≡ innerRefusal d i e → (m ≡ 0 → ⊥) → Refused m ≡ checkedWith d i
+    unfolding checkedWith
+    inner-refused w q h = unless-refused _ _ (inner-decides w q) h
+
+    pub inner-sound : {m : ℕ} {e : Envelope} → envelopeOf d i ≡ Whole e → m ≡ innerRefusal d i e → m ≡ 0 → Sound d e ≡ checkedWith d i
+    unfolding checkedWith
+    inner-sound w q z = unless-sound _ _ (sym z ∙ inner-decides w q) w
+
+-- 4. Refusals 1 to 13.
 module _ (i : Bytes) (call : Call) where
-  pub refused : (n : ℕ) → n ≡ refusal i call → (n ≡ 0 → ⊥) → Refused n ≡ checked i call
-  unfolding checked
-  refused n e h = rw (← e, ne-eqb n 0 h)
+  refusal-later : refusal i call ≡ firstOf (first (callRules call) ∷ (first (headRules i) ∷ (laterRefusal (delimiters i) i ∷ [])))
+  unfolding laterRefusal firstOf
+  refusal-later = refusal-blocks i call ∙ rw (← only {n = laterRefusal (delimiters i) i} refl)
 
-  pub broken : refusal i call ≡ 7 → Refused 7 ≡ checked i call
-  unfolding checked
-  broken e = rw e
+  module _ {n : ℕ} (p : n ≡ first (callRules call)) where
+    pub call-refused : (n ≡ 0 → ⊥) → Refused n ≡ checked i call
+    unfolding checked
+    call-refused h = unless-refused _ _ (here _ p h ∙ sym refusal-later) h
 
-  pub sound : (f : Frame) → 0 ≡ refusal i call → Whole f ≡ frameOf (delimiters i) i → Sound f ≡ checked i call
-  unfolding checked
-  sound f e w = rw (← e, ← w)
+    module _ (p₀ : n ≡ 0) where
+      pub isa-refuses : {m : ℕ} → isaOf i ≡ isas.Refused m → Refused m ≡ checked i call
+      unfolding checked
+      isa-refuses e =
+          let due = isa-refused i e in
+          unless-refused _ _ (onward _ p p₀ (here _ (due .0) (due .1)) ∙ sym refusal-later) (due .1)
 
--- where the first three blocks pass, the frame decides
-module _ (i : Bytes) (call : Call) {a b c : ℕ} (p : a ≡ first (callRules call)) (p₀ : a ≡ 0) (q : b ≡ first (headRules i))
-    (q₀ : b ≡ 0) (r : c ≡ first (endRules i)) (r₀ : c ≡ 0) where
-  past-three : (n : ℕ)
-      → n ≡ firstOf (
-      first (envelopeRules (segments (delimiters i) i))
-      ∷ (first (trailerRules (last [] (segments (delimiters i) i)) 1 (field (isa i) 13))
-      ∷ (first (groupRules (delimiters i) (groupOf (segments (delimiters i) i)))
-      ∷ (first (answerRules (groupOf (segments (delimiters i) i)))
-      ∷ (first (setRules (delimiters i) (groupOf (segments (delimiters i) i)))
-      ∷ [])))))
-      → n ≡ refusal i call
-  past-three n e = onward _ p p₀ (onward _ q q₀ (onward _ r r₀ e)) ∙ sym (refusal-blocks i call)
+      pub delimited : {d : Delimiters} → isaOf i ≡ isas.Sound d → checkedWith d i ≡ checked i call
+      unfolding checked checkedWith
+      delimited e =
+          let s = isa-sound i e in
+          rw (s .1, onward _ p p₀ (onward _ refl (s .0) (only refl)) ∙ sym refusal-later)
 
-  pub inner-decides : {d : Delimiters} {f : Frame} {n : ℕ} → d ≡ delimiters i → frameOf d i ≡ Whole f → n ≡ innerRefusal d i → n ≡ refusal i call
-  unfolding innerRefusal
-  inner-decides {d} {f} {n} e w k =
-      past-three n (onward _ (sym (whole-passes (delimiters i) i {f = f} (rw e at w))) refl (rw e at k))
+-- 5. What an answer of the checks says.
+-- a sound answer has the envelope, and only a broken one is refused
+sound-whole : (w : Enveloped) {d d′ : Delimiters} {e : Envelope} → Sound d e ≡ soundIn d′ w → (d ≡ d′) × (w ≡ Whole e)
+sound-whole (Whole g) q = (cc, cc)
+sound-whole Broken q = let z : _≡_ {A = ℕ} 0 1 = cc in absurd (omega arith)
 
-  pub broken-decides : {d : Delimiters} → d ≡ delimiters i → frameOf d i ≡ Broken → 7 ≡ refusal i call
-  broken-decides {d} e w = past-three 7 (here _ (sym (broken-refused (delimiters i) i (rw e at w))) (λ z. absurd (omega arith)))
+refused-broken : (w : Enveloped) (d : Delimiters) {n : ℕ} → Refused n ≡ soundIn d w → w ≡ Broken
+refused-broken (Whole g) d q = let z : _≡_ {A = ℕ} 0 1 = cc in absurd (omega arith)
+refused-broken Broken d q = refl
 
--- 4. What an answer of the checks says.
--- a sound answer has the frame, and only a broken frame is refused
-sound-whole : (w : Framed) {f : Frame} → Sound f ≡ soundIn w → w ≡ Whole f
-sound-whole (Whole g) e = cc
-sound-whole Broken e = let z : _≡_ {A = ℕ} 0 1 = cc in absurd (omega arith)
-
-refused-broken : (w : Framed) {n : ℕ} → Refused n ≡ soundIn w → w ≡ Broken
-refused-broken (Whole g) e = let z : _≡_ {A = ℕ} 0 1 = cc in absurd (omega arith)
-refused-broken Broken e = refl
+-- An interchange without a refusal has these delimiters and this envelope.
+pub record SoundIs (i : Bytes) (call : Call) (d : Delimiters) (e : Envelope) : Type 0 where
+  pub clear : refusal i call ≡ 0
+  pub read : d ≡ delimiters i
+  pub envelope : EnvelopeIs d i e
 
 module _ (i : Bytes) (call : Call) where
-  -- no frame is broken where there is no refusal
-  never-broken : refusal i call ≡ 0 → frameOf (delimiters i) i ≡ Broken → ⊥
+  -- no envelope is broken where there is no refusal
+  never-broken : refusal i call ≡ 0 → envelopeOf (delimiters i) i ≡ Broken → ⊥
   never-broken e w =
       let z : _≡_ {A = ℕ} 7 0 = sym (broken-refused (delimiters i) i w) ∙ unrefused i call e .envelope in
       omega arith
 
-  -- sound: there is no refusal, and the frame is that of the interchange
-  pub sound-clear : {f : Frame} → Sound f ≡ checked i call → (refusal i call ≡ 0) × FrameIs (delimiters i) i f
+  -- sound: there is no refusal, and what was found is that of the interchange
+  pub sound-is : {d : Delimiters} {e : Envelope} → Sound d e ≡ checked i call → SoundIs i call d e
   unfolding checked
-  sound-clear {f} e = go (eqb (refusal i call) 0) refl
+  sound-is {d} {e} q = go (eqb (refusal i call) 0) refl
     where
-      go : (b : Bool) → eqb (refusal i call) 0 ≡ b → (refusal i call ≡ 0) × FrameIs (delimiters i) i f
-      go true p = (eqb-true _ 0 p, whole-is (delimiters i) i (sound-whole _ (rw p at e)))
-      go false p = let q = rw p at e in let z : _≡_ {A = ℕ} 0 1 = cc in absurd (omega arith)
+      go : (b : Bool) → eqb (refusal i call) 0 ≡ b → SoundIs i call d e
+      go true p =
+          let w = sound-whole _ (rw p at q) in
+          record { clear = eqb-true _ 0 p; read = w .0; envelope = rw (w .0) (whole-is (delimiters i) i (w .1)) }
+      go false p = let z = rw p at q in let z : _≡_ {A = ℕ} 0 1 = cc in absurd (omega arith)
 
   -- refused: the number is that of the refusal
   pub refused-due : {n : ℕ} → Refused n ≡ checked i call → (n ≡ refusal i call) × (n ≡ 0 → ⊥)
@@ -154,5 +196,5 @@ module _ (i : Bytes) (call : Call) where
   refused-due {n} e = go (eqb (refusal i call) 0) refl
     where
       go : (b : Bool) → eqb (refusal i call) 0 ≡ b → (n ≡ refusal i call) × (n ≡ 0 → ⊥)
-      go true p = absurd (never-broken (eqb-true _ 0 p) (refused-broken _ (rw p at e)))
+      go true p = absurd (never-broken (eqb-true _ 0 p) (refused-broken _ _ (rw p at e)))
       go false p = let q : n ≡ refusal i call = cc (rw p at e) in (q, λ z. eqb-false _ 0 p (sym q ∙ z))

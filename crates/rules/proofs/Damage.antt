@@ -14,17 +14,17 @@ use Rattle.rules.specs.Cutting.{Segment, isNamed, delimiters, isa, piece
 use Rattle.rules.specs.Sets.{Set, controlOf, setReport, SetReport}
 use Rattle.rules.specs.Tables.{Table}
 use Rattle.rules.specs.Groups.{Group, groupOf, isGE, sets, tableIn, setReports, groupCodes, groupReport}
-use Rattle.rules.specs.Refusals.{callRules, hasISA, goodST, headRules, endRules, enveloped, envelopeRules, trailerRules, groupRules, answerRules, setRules, refusalRules, refusal}
+use Rattle.rules.specs.Refusals.{callRules, hasISA, goodST, headRules, endRules, enveloped, envelopeRules, trailerRules, setRules, groupRules, refusalRules, refusal}
 use Rattle.rules.specs.Response.{fieldsOut, segmentOut, out, block, blocks, ak1, ak9, seOut, told, transactionSet, isaOut, gsOut, geOut, ieaOut, respond, response}
 use Rattle.rules.specs.Answers.{answer, number, buffer}
-use Rattle.rules.specs.Damage.{isWhole, isInner, isFilling, Damaged, done, kept, spoiled, refilled, groupIn, setsIn, flat, rebuilt, reportIn, blocksIn, opening, closing, joined, left, Stays}
+use Rattle.rules.specs.Damage.{isWhole, isInner, isFilling, Damaged, done, kept, spoiled, refilled, groupIn, setsIn, flat, rebuilt, reportIn, blocksIn, opening, closing, joined, bufferAfter, Stays}
 use Rattle.rules.specs.declared.Call.{Call}
 use Rattle.rules.specs.declared.Answer.{Answer}
 use Rattle.rules.specs.declared.Answer.the-variants.{Written}
 use Rattle.rules.specs.declared.Delimiters.{Delimiters}
 use Rattle.rules.proofs.Logic.{and-left, and-right, all-head, all-tail, all-cons, all-append, all-left, all-right, all-weaken, last-snoc}
 use Rattle.rules.proofs.Cuts.{segments-out, segments-whole, out-segments, out-append}
-use Rattle.rules.proofs.SetLaws.{isOuter, Optional, Sets, no-set, more, sets-flat, outer-flat, stray-flat}
+use Rattle.rules.proofs.SetLaws.{isOuter, Optional, Sets, no-set, more, sets-flat, outer-flat, outside-flat}
 use Rattle.rules.proofs.Envelope.{delimiters-head, hasISA-head, isa-head, Header, Clear, clear, Answered, made, first-cut, first-segment, rest-cut, around, group-around, last-around}
 
 -- 1. What damage leaves alone.
@@ -99,16 +99,14 @@ module _ (d : Delimiters) where
 
 -- 2. What the rules and the reports read of sets between ISA, GS and GE, IEA.
 module _ (is gs iea : Segment) {ss : List Set} {ge : Option Segment} (ws : Sets ss) (o : Optional isGE ge) where
-  abbrev groupAs : Group
-  groupAs = record { header = gs; body = flat ss; trailer = ge }
-
   envelope-around : envelopeRules (around is gs iea ss ge) ≡ (not (isNamed (ascii "GS") gs && isNamed (ascii "IEA") iea && true) ⇒ 7) ∷ []
   unfolding envelopeRules enveloped
   envelope-around = rw (group-around is gs iea ws o, last-around is gs iea ss ge, outer-flat ws)
 
-  sets-around : (d : Delimiters) → setRules d groupAs ≡ (false ⇒ 11) ∷ (null ss ⇒ 12) ∷ (not (all (λ s. goodST d (s .header)) ss) ⇒ 13) ∷ []
-  unfolding setRules
-  sets-around d = rw (stray-flat ws, sets-flat ws)
+set-rules-flat : (d : Delimiters) {ss : List Set} → Sets ss
+    → setRules d (flat ss) ≡ (false ⇒ 11) ∷ (null ss ⇒ 12) ∷ (not (all (λ s. goodST d (s .header)) ss) ⇒ 13) ∷ []
+unfolding setRules
+set-rules-flat d ws = rw (outside-flat ws, sets-flat ws)
 
 -- 3. Two interchanges that differ in their sets alone: what they have in common.
 record Spoiled (i j : Bytes) (before after : List Set) : Type 0 where
@@ -147,7 +145,7 @@ module _ {i j : Bytes} {before after : List Set} (h : Spoiled i j before after) 
       ∙ group-around (h .is) (h .gs) (h .iea) well-after (h .closed)
 
   same-rules : (call : Call) → refusalRules j call ≡ refusalRules i call
-  unfolding refusalRules headRules endRules groupRules answerRules trailerRules
+  unfolding refusalRules headRules endRules groupRules trailerRules
   same-rules call =
       rw (
         group-after,
@@ -163,8 +161,8 @@ module _ {i j : Bytes} {before after : List Set} (h : Spoiled i j before after) 
         envelope-around (h .is) (h .gs) (h .iea) (h .well) (h .closed),
         last-around (h .is) (h .gs) (h .iea) after (h .ge),
         last-around (h .is) (h .gs) (h .iea) before (h .ge),
-        sets-around (h .is) (h .gs) (h .iea) well-after (h .closed) (delimiters i),
-        sets-around (h .is) (h .gs) (h .iea) (h .well) (h .closed) (delimiters i),
+        set-rules-flat (delimiters i) well-after,
+        set-rules-flat (delimiters i) (h .well),
         null-stays (delimiters i) (h .damaged),
         headers-stay (delimiters i) (h .damaged),
       )

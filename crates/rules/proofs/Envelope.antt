@@ -13,15 +13,15 @@ use lib.Seq.{slice, slice-empty, split-at, take-suc, getD-take, take-take, drop-
 use Rattle.rules.specs.Base.{Bytes, ascii, same, member, between, all, any, front, last, listed, first, if_then_else_}
 use Rattle.rules.specs.Cutting.{Segment, field, isNamed, delimiters, marks, separators, valid, fieldsAt, isa, segments, split}
 use Rattle.rules.specs.Numbers.{digits}
-use Rattle.rules.specs.Sets.{Set, isST, setsOf, stray}
+use Rattle.rules.specs.Sets.{Set, isST, setsOf, outside}
 use Rattle.rules.specs.Groups.{Group, groupOf, groupWith, isGE, sets}
-use Rattle.rules.specs.Refusals.{callRules, hasISA, plain, distinct, goodMarks, goodISA, headRules, endRules, isEnvelope, enveloped, envelopeRules, trailerRules, groupRules, answerRules, setRules, refusalRules, refusal}
+use Rattle.rules.specs.Refusals.{callRules, hasISA, plain, distinct, goodMarks, goodISA, headRules, endRules, isEnvelope, enveloped, envelopeRules, trailerRules, headerRules, answerRules, setRules, groupRules, refusalRules, refusal}
 use Rattle.rules.specs.Damage.{flat, free}
 use Rattle.rules.specs.declared.Call.{Call}
 use Rattle.rules.specs.declared.Delimiters.{Delimiters}
 use Rattle.rules.proofs.Logic.{and-left, and-right, or-left, or-right, both-left, both-right, all-head, all-tail, all-cons, all-append, all-weaken, same→eq, front-last, front-snoc, last-snoc, last-all, silent}
 use Rattle.rules.proofs.Cuts.{pieces-step}
-use Rattle.rules.proofs.SetLaws.{isOuter, Optional, missing, there, Sets, sets-cut, flat-sets, sets-flat, outer-flat, stray-flat}
+use Rattle.rules.proofs.SetLaws.{isOuter, Optional, missing, there, Sets, sets-cut, flat-sets, sets-flat, outer-flat, outside-flat}
 
 -- 1. What is read of ISA lies in its 106 bytes.
 separators-low : all (λ a. ltb a 106) separators ≡ true
@@ -142,11 +142,11 @@ marks-differ d e =
 pub record Clear (i : Bytes) (call : Call) : Type 0 where
   pub numbers : first (callRules call) ≡ 0
   pub header : Header i
-  pub frame : enveloped (segments (delimiters i) i) ≡ true
-  pub outside : stray false (groupOf (segments (delimiters i) i) .body) ≡ false
+  pub envelope : enveloped (segments (delimiters i) i) ≡ true
+  pub sets : outside (groupOf (segments (delimiters i) i) .body) ≡ false
 
 pub clear : (i : Bytes) (call : Call) → refusal i call ≡ 0 → Clear i call
-unfolding refusal refusalRules callRules headRules endRules envelopeRules trailerRules groupRules answerRules setRules hasISA goodMarks goodISA first
+unfolding refusal refusalRules callRules headRules endRules envelopeRules trailerRules groupRules headerRules answerRules setRules hasISA goodMarks goodISA first
 clear i call e =
     let d = delimiters i in
     let n = length i in
@@ -167,8 +167,8 @@ clear i call e =
         component≢ = differ .1;
         ends = eqb-true (last 0 i) (d .terminator) (not-false (eqb (last 0 i) (d .terminator)) (r .1 .1 .1 .1 .1 .0));
       };
-      frame = not-false (enveloped (segments d i)) (r .1 .1 .1 .1 .1 .1 .0);
-      outside = r .1 .1 .1 .1 .1 .1 .1 .1 .1 .1 .0;
+      envelope = not-false (enveloped (segments d i)) (r .1 .1 .1 .1 .1 .1 .0);
+      sets = r .1 .1 .1 .1 .1 .1 .1 .1 .1 .1 .1 .1 .0;
     }
 
 -- 3. The first segment is ISA: 105 bytes, and the terminator is byte 105.
@@ -260,11 +260,11 @@ made i call c =
     let g = groupOf ss in
     let gs = isNamed (ascii "GS") (getD ss 1 []) in
     let iea = isNamed (ascii "IEA") (last [] ss) in
-    let named = and-left (gs && iea) (all isOuter (g .body)) (c .frame) in
+    let named = and-left (gs && iea) (all isOuter (g .body)) (c .envelope) in
     record {
       parts = parts ss (and-left gs iea named) (and-right gs iea named);
-      body = sym (flat-sets (g .body) (c .outside));
-      cut = sets-cut (g .body) (and-right (gs && iea) (all isOuter (g .body)) (c .frame));
+      body = sym (flat-sets (g .body) (c .sets));
+      cut = sets-cut (g .body) (and-right (gs && iea) (all isOuter (g .body)) (c .envelope));
     }
 
 -- 5. The other way: sets between ISA, GS and GE, IEA are the group of these segments.

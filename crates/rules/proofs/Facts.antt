@@ -15,7 +15,7 @@ use Rattle.rules.specs.Numbers.{decimal}
 use Rattle.rules.specs.Sets.{Set, controlOf, setReport, SetReport, accepted}
 use Rattle.rules.specs.Tables.{Table}
 use Rattle.rules.specs.Groups.{Group, groupOf, sets, tableIn, setReports, acceptedIn, GroupReport, groupReport}
-use Rattle.rules.specs.Refusals.{callRules, headRules, endRules, envelopeRules, trailerRules, groupRules, answerRules, setRules, refusalRules, refusal}
+use Rattle.rules.specs.Refusals.{callRules, headRules, endRules, envelopeRules, trailerRules, headerRules, answerRules, setRules, groupRules, refusalRules, refusal}
 use Rattle.rules.specs.Response.{ak5, seOut, told, transactionSet}
 use Rattle.rules.specs.Answers.{Allowed, answer, buffer, outcome}
 use Rattle.rules.specs.declared.Call.{Call}
@@ -82,7 +82,7 @@ first-low ((true ⇒ n) ∷ rs) e = leb-true n 13 (and-left (leb n 13) (low rs) 
 first-low ((false ⇒ n) ∷ rs) e = first-low rs (and-right (leb n 13) (low rs) e)
 
 pub refusal-low : (i : Bytes) (call : Call) → refusal i call ≤ 13
-unfolding refusal refusalRules callRules headRules endRules envelopeRules trailerRules groupRules answerRules setRules
+unfolding refusal refusalRules callRules headRules endRules envelopeRules trailerRules groupRules headerRules answerRules setRules
 refusal-low i call = first-low (refusalRules i call) refl
 
 -- 6. The refusal is that of the first block of rules that has one.
@@ -111,40 +111,46 @@ module _ (i : Bytes) (call : Call) where
   ruleBlocks =
       let d = delimiters i in
       let ss = segments d i in
-      let g = groupOf ss in
       callRules call
       ∷ (headRules i
-      ∷ (endRules i
+      ∷ (endRules d i
       ∷ (envelopeRules ss
       ∷ (trailerRules (last [] ss) 1 (field (isa i) 13)
-      ∷ (groupRules d g
-      ∷ (answerRules g
-      ∷ (setRules d g
-      ∷ [])))))))
+      ∷ (groupRules d (groupOf ss)
+      ∷ [])))))
 
   rules-in-order : refusalRules i call ≡ inOrder ruleBlocks
   unfolding refusalRules
   rules-in-order = simp (append-assoc, append-nil)
 
   blocks-numbered : T (allNumbered ruleBlocks)
-  unfolding callRules headRules endRules envelopeRules trailerRules groupRules answerRules setRules
+  unfolding callRules headRules endRules envelopeRules trailerRules groupRules headerRules answerRules setRules
   blocks-numbered = tt
 
 pub refusal-blocks : (i : Bytes) (call : Call)
     → let d = delimiters i in
     let ss = segments d i in
-    let g = groupOf ss in
     refusal i call
     ≡ firstOf (
     first (callRules call)
     ∷ (first (headRules i)
-    ∷ (first (endRules i)
+    ∷ (first (endRules d i)
     ∷ (first (envelopeRules ss)
     ∷ (first (trailerRules (last [] ss) 1 (field (isa i) 13))
-    ∷ (first (groupRules d g)
-    ∷ (first (answerRules g)
-    ∷ (first (setRules d g)
-    ∷ []))))))))
+    ∷ (first (groupRules d (groupOf ss))
+    ∷ []))))))
 unfolding refusal
 refusal-blocks i call =
     ap first (rules-in-order i call) ∙ first-in-order (ruleBlocks i call) (blocks-numbered i call)
+
+-- the same for one group
+pub group-blocks : (d : Delimiters) (g : Group)
+    → first (groupRules d g)
+    ≡ firstOf (
+    first (headerRules d (g .header))
+    ∷ (first (answerRules (g .header))
+    ∷ (first (setRules d (g .body))
+    ∷ [])))
+unfolding groupRules headerRules answerRules setRules
+group-blocks d g =
+    first-in-order (headerRules d (g .header) ∷ (answerRules (g .header) ∷ (setRules d (g .body) ∷ []))) tt

@@ -1,4 +1,4 @@
--- Laws of sets: a group without stray segments is its sets, one after the other, and its sets are what is cut out of it.
+-- Laws of sets: a group without a segment outside its sets is its sets, one after the other, and its sets are what is cut out of it.
 use mathlib.Core.Path.{_≡_, refl, sym, ap}
 use mathlib.Core.Bool.{Bool, true, false, _&&_, _||_, not, false≢true, true≢false}
 use mathlib.Core.List.{List, [], _∷_, _++_, append-nil}
@@ -6,7 +6,7 @@ use mathlib.Core.Option.{Option, none, some}
 use borrow.Author.Tests.{not-true}
 use Rattle.rules.specs.Base.{ascii, same, all, any, listed}
 use Rattle.rules.specs.Cutting.{Segment, field}
-use Rattle.rules.specs.Sets.{Set, isST, isSE, setsOf, bodyOf, trailerOf, stray}
+use Rattle.rules.specs.Sets.{Set, isST, isSE, setsOf, bodyOf, trailerOf, outside, inside}
 use Rattle.rules.specs.Refusals.{isEnvelope}
 use Rattle.rules.specs.Damage.{flat, isInner}
 use Rattle.rules.proofs.Logic.{and-left, and-right, all-head, all-tail, all-cons, all-append, all-weaken, same→eq}
@@ -78,12 +78,10 @@ module _ (ys : List Segment) where
   sets-append [] e = refl
   sets-append (x ∷ xs) e = rw (inner-ST x (all-head isInner x xs e), sets-append xs (all-tail isInner x xs e))
 
-  stray-append : (xs : List Segment) → all isInner xs ≡ true → stray true (xs ++ ys) ≡ stray true ys
-  unfolding stray
-  stray-append [] e = refl
-  stray-append (x ∷ xs) e =
-      let i = all-head isInner x xs e in
-      rw (inner-ST x i, inner-SE x i, stray-append xs (all-tail isInner x xs e))
+  inside-append : (xs : List Segment) → all isInner xs ≡ true → inside (xs ++ ys) ≡ inside ys
+  unfolding inside
+  inside-append [] e = refl
+  inside-append (x ∷ xs) e = rw (inner-SE x (all-head isInner x xs e), inside-append xs (all-tail isInner x xs e))
 
 body-flat : {ss : List Set} → Sets ss → bodyOf (flat ss) ≡ []
 unfolding bodyOf flat
@@ -129,21 +127,21 @@ sets-flat (more {s} {ss} w ws) =
       sets-flat ws,
     )
 
-stray-open : {ss : List Set} → Sets ss → stray true (flat ss) ≡ stray false (flat ss)
-unfolding stray flat
-stray-open no-set = refl
-stray-open (more w ws) = rw (w .header)
+inside-flat : {ss : List Set} → Sets ss → inside (flat ss) ≡ outside (flat ss)
+unfolding inside flat
+inside-flat no-set = refl
+inside-flat (more {s} w ws) = rw (w .header, ST-SE (s .header) (w .header))
 
-stray-end : {t : Option Segment} {ss : List Set} → Optional isSE t → Sets ss → stray true (listed t ++ flat ss) ≡ stray false (flat ss)
-unfolding stray
-stray-end missing ws = stray-open ws
-stray-end (there {s} e) ws = rw (SE-ST s e, e)
+inside-end : {t : Option Segment} {ss : List Set} → Optional isSE t → Sets ss → inside (listed t ++ flat ss) ≡ outside (flat ss)
+unfolding inside
+inside-end missing ws = inside-flat ws
+inside-end (there {s} e) ws = rw e
 
-pub stray-flat : {ss : List Set} → Sets ss → stray false (flat ss) ≡ false
-unfolding stray flat
-stray-flat no-set = refl
-stray-flat (more {s} {ss} w ws) =
-    rw (w .header, stray-append (listed (s .trailer) ++ flat ss) (s .body) (w .body), stray-end (w .trailer) ws) (stray-flat ws)
+pub outside-flat : {ss : List Set} → Sets ss → outside (flat ss) ≡ false
+unfolding outside flat
+outside-flat no-set = refl
+outside-flat (more {s} {ss} w ws) =
+    rw (w .header, inside-append (listed (s .trailer) ++ flat ss) (s .body) (w .body), inside-end (w .trailer) ws) (outside-flat ws)
 
 -- no segment of sets is one of the envelope
 outer-trailer : {t : Option Segment} → Optional isSE t → all isOuter (listed t) ≡ true
@@ -159,28 +157,28 @@ outer-flat (more {s} {ss} w ws) =
     (all-append isOuter (s .body) (listed (s .trailer) ++ flat ss) (all-weaken isInner isOuter inner-outer (s .body) (w .body))
     (all-append isOuter (listed (s .trailer)) (flat ss) (outer-trailer (w .trailer)) (outer-flat ws)))
 
--- 4. A group without stray segments is its sets, one after the other.
+-- 4. A group without a segment outside its sets is its sets, one after the other.
 abbrev Rejoined : List Segment → Type 0
 Rejoined xs =
-    (stray true xs ≡ false → bodyOf xs ++ (listed (trailerOf xs) ++ flat (setsOf xs)) ≡ xs) × (stray false xs ≡ false → flat (setsOf xs) ≡ xs)
+    (inside xs ≡ false → bodyOf xs ++ (listed (trailerOf xs) ++ flat (setsOf xs)) ≡ xs) × (outside xs ≡ false → flat (setsOf xs) ≡ xs)
 
 rejoin : (s : Segment) (ss : List Segment) (b c : Bool) → isST s ≡ b → isSE s ≡ c → Rejoined ss → Rejoined (s ∷ ss)
-unfolding stray bodyOf trailerOf setsOf flat
+unfolding inside bodyOf trailerOf setsOf flat
 rejoin s ss true c p q r = (
-  λ e. rw (p, ST-SE s p) (ap (λ (l : List Segment). s ∷ l) (r .0 (rw p at e))),
+  λ e. rw (p, ST-SE s p) (ap (λ (l : List Segment). s ∷ l) (r .0 (rw (ST-SE s p) at e))),
   λ e. rw p (ap (λ (l : List Segment). s ∷ l) (r .0 (rw p at e))),
 )
 rejoin s ss false true p q r =
-    (λ e. rw (p, q) (ap (λ (l : List Segment). s ∷ l) (r .1 (rw (p, q) at e))), λ e. absurd (true≢false (rw p at e)))
+    (λ e. rw (p, q) (ap (λ (l : List Segment). s ∷ l) (r .1 (rw q at e))), λ e. absurd (true≢false (rw p at e)))
 rejoin s ss false false p q r =
-    (λ e. rw (p, q) (ap (λ (l : List Segment). s ∷ l) (r .0 (rw (p, q) at e))), λ e. absurd (true≢false (rw p at e)))
+    (λ e. rw (p, q) (ap (λ (l : List Segment). s ∷ l) (r .0 (rw q at e))), λ e. absurd (true≢false (rw p at e)))
 
 rejoined : (xs : List Segment) → Rejoined xs
 unfolding bodyOf trailerOf setsOf flat
 rejoined [] = (λ e. refl, λ e. refl)
 rejoined (s ∷ ss) = rejoin s ss (isST s) (isSE s) refl refl (rejoined ss)
 
-pub flat-sets : (xs : List Segment) → stray false xs ≡ false → flat (setsOf xs) ≡ xs
+pub flat-sets : (xs : List Segment) → outside xs ≡ false → flat (setsOf xs) ≡ xs
 flat-sets xs = rejoined xs .1
 
 -- 5. What is cut out of a group are sets.

@@ -56,7 +56,8 @@ module _ {ℓ} {A : Type ℓ} where
   any p [] = false
   any p (x ∷ xs) = p x || any p xs
 
-  -- those that pass
+  -- Those that pass. A recursive call is bound before an `if`, here and below: both branches of an `if` are computed, and what a `let` binds
+  -- only where it is read. A call in both branches would double the work with every step.
   unfoldable pub keep : (A → Bool) → List A → List A
   keep p [] = []
   keep p (x ∷ xs) = let r = keep p xs in if p x then x ∷ r else r

@@ -94,15 +94,15 @@ joined [] = []
 joined (b ∷ bs) = b ++ joined bs
 
 -- the bytes of the buffer after a call
-abbrev pub left : Bytes → Bytes → Call → Bytes
-left i lent call = buffer (answer i (length lent) call) (response i call) lent
+abbrev pub bufferAfter : Bytes → Bytes → Call → Bytes
+bufferAfter i lent call = buffer (answer i (length lent) call) (response i call) lent
 
 -- j, which is i with the sets after, is answered into the buffer lent. The buffer then has the opening of the response to i, the blocks,
 -- the closing and what was lent; the blocks are what the definitions say of the sets after, and an untouched set has its old block at its
 -- old place; the number of sets received and the group's codes are the old ones.
 pub record Stays (i j lent : Bytes) (after : List Set) (call : Call) : Type 0 where
   pub answered : number (answer j (length lent) call) ≡ 0
-  pub written : left j lent call
+  pub written : bufferAfter j lent call
       ≡ out (delimiters i) (opening i call) ++ joined (blocksIn j) ++ out (delimiters i) (closing j call)
       ++ drop (length (response j call)) lent
   pub blocks : blocksIn j ≡ map (λ r. out (delimiters i) (block r)) (setReports (delimiters i) (tableIn (groupIn i .header)) [] after)

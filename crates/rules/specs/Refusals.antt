@@ -7,8 +7,8 @@ use lib.ListN.{length, take, getD}
 use Rattle.rules.specs.Base.{Bytes, Rule, _⇒_, first, null, all, any, between, isDigit, isUpper, isLower, isUpperOrDigit, ascii, same, member, last}
 use Rattle.rules.specs.Cutting.{Segment, field, isNamed, delimiters, marks, separators, valid, text, isa, segments}
 use Rattle.rules.specs.Numbers.{digits, declares, isDay, isDate, isTime}
-use Rattle.rules.specs.Sets.{Set, stray}
-use Rattle.rules.specs.Groups.{Group, groupOf, sets}
+use Rattle.rules.specs.Sets.{Set, setsOf, outside}
+use Rattle.rules.specs.Groups.{Group, groupOf}
 use Rattle.rules.specs.declared.Call.{Call}
 use Rattle.rules.specs.declared.Delimiters.{Delimiters}
 
@@ -52,8 +52,8 @@ headRules i =
     []
 
 -- 6: the last byte ends a segment
-unfoldable pub endRules : Bytes → List Rule
-endRules i = (not (eqb (last 0 i) (delimiters i .terminator)) ⇒ 6) ∷ []
+unfoldable pub endRules : Delimiters → Bytes → List Rule
+endRules d i = (not (eqb (last 0 i) (d .terminator)) ⇒ 6) ∷ []
 
 -- 7: ISA, GS, GE and IEA stand first, second, next to last and last, and nowhere else
 abbrev pub isEnvelope : Segment → Bool
@@ -67,18 +67,22 @@ enveloped ss =
 unfoldable pub envelopeRules : List Segment → List Rule
 envelopeRules ss = (not (enveloped ss) ⇒ 7) ∷ []
 
--- 8: IEA has two elements, counts n groups, and names this interchange
+-- 8: IEA has two elements, names this interchange, and counts n groups
 abbrev pub hasTwo : Segment → Bool
 hasTwo iea = eqb (length iea) 3
-
-abbrev pub countsGroups : ℕ → Segment → Bool
-countsGroups n iea = declares 5 (field iea 1) n
 
 abbrev pub closes : Segment → Bytes → Bool
 closes iea isa13 = same (field iea 2) isa13
 
+abbrev pub countsGroups : ℕ → Segment → Bool
+countsGroups n iea = declares 5 (field iea 1) n
+
 unfoldable pub trailerRules : Segment → ℕ → Bytes → List Rule
-trailerRules iea n isa13 = (not (hasTwo iea && countsGroups n iea && closes iea isa13) ⇒ 8) ∷ []
+trailerRules iea n isa13 =
+    (not (hasTwo iea) ⇒ 8) ∷
+    (not (closes iea isa13) ⇒ 8) ∷
+    (not (countsGroups n iea) ⇒ 8) ∷
+    []
 
 -- 9: the GS rule
 unfoldable pub goodGS : Delimiters → Segment → Bool
@@ -89,34 +93,36 @@ goodGS d s =
     && isDate (field s 4) && isTime (field s 5) && digits 1 9 (field s 6)
     && text d 1 2 (field s 7) && text d 1 12 (field s 8)
 
-unfoldable pub groupRules : Delimiters → Group → List Rule
-groupRules d g = (not (goodGS d (g .header)) ⇒ 9) ∷ []
+unfoldable pub headerRules : Delimiters → Segment → List Rule
+headerRules d gs = (not (goodGS d gs) ⇒ 9) ∷ []
 
 -- 10: acknowledgments are not acknowledged
-unfoldable pub answerRules : Group → List Rule
-answerRules g = (same (field (g .header) 1) (ascii "FA") ⇒ 10) ∷ []
+unfoldable pub answerRules : Segment → List Rule
+answerRules gs = (same (field gs 1) (ascii "FA") ⇒ 10) ∷ []
 
 -- 13: the header of a set can be answered
 unfoldable pub goodST : Delimiters → Segment → Bool
 goodST d st = digits 3 3 (field st 1) && text d 4 9 (field st 2)
 
--- 11 to 13: the sets of the group
-unfoldable pub setRules : Delimiters → Group → List Rule
-setRules d g =
-    (stray false (g .body) ⇒ 11) ∷
-    (null (sets g) ⇒ 12) ∷
-    (not (all (λ s. goodST d (s .header)) (sets g)) ⇒ 13) ∷
+-- 11 to 13: the sets of a group, by its segments
+unfoldable pub setRules : Delimiters → List Segment → List Rule
+setRules d body =
+    (outside body ⇒ 11) ∷
+    (null (setsOf body) ⇒ 12) ∷
+    (not (all (λ s. goodST d (s .header)) (setsOf body)) ⇒ 13) ∷
     []
+
+-- 9 to 13: one group
+unfoldable pub groupRules : Delimiters → Group → List Rule
+groupRules d g = headerRules d (g .header) ++ answerRules (g .header) ++ setRules d (g .body)
 
 -- all of them, in the order of checking
 unfoldable pub refusalRules : Bytes → Call → List Rule
 refusalRules i call =
     let d = delimiters i in
     let ss = segments d i in
-    let g = groupOf ss in
-    callRules call ++ headRules i ++ endRules i
-    ++ envelopeRules ss ++ trailerRules (last [] ss) 1 (field (isa i) 13)
-    ++ groupRules d g ++ answerRules g ++ setRules d g
+    callRules call ++ headRules i ++ endRules d i
+    ++ envelopeRules ss ++ trailerRules (last [] ss) 1 (field (isa i) 13) ++ groupRules d (groupOf ss)
 
 -- the number of the refusal, 0 for none of 1 to 13
 unfoldable pub refusal : Bytes → Call → ℕ

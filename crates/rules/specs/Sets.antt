@@ -1,6 +1,6 @@
 -- "Verdicts", the sets: their cutting, and what is reported of each (AK2 to AK5).
 use Prim.Native.Nat.{ℕ}
-use mathlib.Core.Bool.{Bool, true, false, _&&_, _||_, not}
+use mathlib.Core.Bool.{Bool, true, false, _||_, not}
 use mathlib.Core.List.{List, [], _∷_, _++_}
 use mathlib.Core.Option.{Option, none, some}
 use lib.ListN.{length}
@@ -40,10 +40,19 @@ setsOf (s ∷ ss) =
     let r = setsOf ss in
     if isST s then record { header = s; body = bodyOf ss; trailer = trailerOf ss } ∷ r else r
 
--- a segment lies outside every set; within tells whether a set is open
-unfoldable pub stray : Bool → List Segment → Bool
-stray within [] = false
-stray within (s ∷ ss) = (not (isST s) && not within) || stray (isST s || within && not (isSE s)) ss
+unfoldable mutual
+  -- a segment lies outside every set, where no set is open: the first, unless it is ST, or a later one
+  pub outside : List Segment → Bool
+  outside [] = false
+  outside (s ∷ ss) = not (isST s) || inside ss
+
+  -- the same where a set is open, which SE closes
+  pub inside : List Segment → Bool
+  inside [] = false
+  inside (s ∷ ss) =
+      let after = outside ss in
+      let on = inside ss in
+      if isSE s then after else on
 
 -- from ST to SE
 abbrev pub segmentsOf : Set → List Segment

@@ -1,5 +1,8 @@
 // The types that the code and the definitions of document 01 share. The definitions stand in specs/, the theorems on them in proofs/.
 ghost use mathlib.Core.Path.{_≡_};
+ghost use lib.Dec.{eqb};
+ghost use Rattle.rules.specs.Base.{any};
+ghost use Rattle.rules.specs.Cutting as cutting;
 
 // The names of segments, for what is read and for what is written.
 pub const ISA: [u8; 3] = *b"ISA";
@@ -57,6 +60,20 @@ impl Delimiters {
             terminator,
         }
     }
+
+    // All of them.
+    pub fn marks(self) -> [u8; 3]
+        ensures { λ r. ⌜ r ≡ cutting.marks self ⌝ }
+    {
+        [self.element, self.component, self.terminator]
+    }
+
+    // The byte is one of them.
+    pub fn is_mark(self, b: u8) -> bool
+        ensures { λ r. ⌜ r ≡ any (eqb b) (cutting.marks self) ⌝ }
+    {
+        (b == self.element) | (b == self.component) | (b == self.terminator)
+    }
 }
 
 // The type of an element.
@@ -94,6 +111,61 @@ impl Finding {
             code,
         }
     }
+}
+
+// A code of AK3: what is wrong with a segment.
+pub struct SegmentCode {
+    pub number: u8,
+}
+
+impl SegmentCode {
+    pub const NOT_KNOWN: u8 = 1;
+
+    pub const MISSING: u8 = 3;
+
+    pub const BEYOND_MAXIMUM: u8 = 5;
+
+    pub const NOT_IN_TABLE: u8 = 6;
+
+    pub const OUT_OF_ORDER: u8 = 7;
+
+    pub const HAS_FINDINGS: u8 = 8;
+}
+
+// A code of AK5: what is wrong with a set.
+pub struct SetCode {
+    pub number: u8,
+}
+
+impl SetCode {
+    pub const NOT_SUPPORTED: u8 = 1;
+
+    pub const NO_TRAILER: u8 = 2;
+
+    pub const OTHER_CONTROL: u8 = 3;
+
+    pub const OTHER_COUNT: u8 = 4;
+
+    pub const HAS_NOTES: u8 = 5;
+
+    pub const REPEATED: u8 = 23;
+}
+
+// A code of AK9: what is wrong with a group.
+pub struct GroupCode {
+    pub number: u8,
+}
+
+impl GroupCode {
+    pub const NOT_SUPPORTED: u8 = 1;
+
+    pub const NO_TABLE: u8 = 2;
+
+    pub const NO_TRAILER: u8 = 3;
+
+    pub const OTHER_CONTROL: u8 = 4;
+
+    pub const OTHER_COUNT: u8 = 5;
 }
 
 // The caller's numbers: the date CCYYMMDD, the time HHMM and the control number of the response.

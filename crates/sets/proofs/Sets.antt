@@ -1,16 +1,16 @@
 -- The set at a place of a group's bytes: it is the first of those left there, and the others are those left at its end.
 use mathlib.Core.Path.{_≡_, refl, sym, ap, _∙_, subst⁻¹}
-use mathlib.Core.Bool.{Bool, true, false, _&&_, not, true≢false}
+use mathlib.Core.Bool.{Bool, true, false, not}
 use mathlib.Core.List.{List, _∷_, _++_, append-nil, append-assoc}
 use mathlib.Core.Option.{Option, none, some}
 use Prim.Native.Nat.{ℕ, zero, suc, _+_, _-_, _<_, _≤_}
 use native.Mathlib.Omega.{arith}
-use borrow.Author.Tests.{ltb-true, ltb-false}
+use borrow.Author.Tests.{ltb-true, ltb-false, not-false}
 use lib.Dec.{ltb}
 use lib.ListN.{length, take, drop}
 use Rattle.rules.specs.Base.{Bytes, isNone, listed, if_then_else_}
 use Rattle.rules.specs.Cutting.{Segment, split, pieces, segments}
-use Rattle.rules.specs.Sets.{Set, isST, isSE, bodyOf, trailerOf, setsOf, stray, segmentsOf, controlOf}
+use Rattle.rules.specs.Sets.{Set, isST, isSE, bodyOf, trailerOf, setsOf, outside, inside, segmentsOf, controlOf}
 use Rattle.rules.specs.declared.Delimiters.{Delimiters}
 use Rattle.rules.proofs.Logic.{or-left}
 use Rattle.rules.proofs.SetLaws.{SE-ST}
@@ -37,7 +37,7 @@ record Follows (d : Delimiters) (body : Bytes) (start header n at : ℕ) (r : Se
       ≡ segments d (take (at - start) (drop start body))
       ++ (bodyOf (segments d (drop at body)) ++ listed (trailerOf (segments d (drop at body))))
   trailer : trailerOf (segments d (drop at body)) ≡ trailerIn d body r
-  strays : stray true (segments d (drop at body)) ≡ stray false (segments d (drop (r .end) body))
+  strays : inside (segments d (drop at body)) ≡ outside (segments d (drop (r .end) body))
   headed : r .header ≡ header
   counted : r .segments ≡ n + length (bodyOf (segments d (drop at body)) ++ listed (trailerOf (segments d (drop at body))))
   onward : at ≤ r .end
@@ -52,7 +52,7 @@ module _ (d : Delimiters) (body : Bytes) (start header : ℕ) where
   Goes n at = Follows d body start header n at (from n at)
 
   follows-none : (n at : ℕ) → length body ≤ at → at ≤ length body + 1 → Follows d body start header n at (unclosedAt header n at)
-  unfolding bodyOf trailerOf stray
+  unfolding bodyOf trailerOf outside
   follows-none n at k l = record {
     others = refl;
     whole = rw (segments-none d body at k) (sym (append-nil _));
@@ -69,7 +69,7 @@ module _ (d : Delimiters) (body : Bytes) (start header : ℕ) where
     here = split (d .element) (take (end - at) (drop at body))
 
     follows-SE : isSE here ≡ true → Follows d body start header n at (closedAt header (n + 1) at (end + 1))
-    unfolding bodyOf trailerOf setsOf stray
+    unfolding bodyOf trailerOf setsOf outside
     follows-SE p =
         let back : end + 1 - 1 ≡ end = omega arith in
         let g = SE-ST here p in
@@ -77,7 +77,7 @@ module _ (d : Delimiters) (body : Bytes) (start header : ℕ) where
           others = rw (segments-at d body at end h q, g);
           whole = rw (segments-at d body at end h q, g, p) (segments-part d w h q);
           trailer = rw (segments-at d body at end h q, p, back);
-          strays = rw (segments-at d body at end h q, g, p);
+          strays = rw (segments-at d body at end h q, p);
           headed = refl;
           counted = rw (segments-at d body at end h q, g, p);
           onward = omega arith;
@@ -85,12 +85,12 @@ module _ (d : Delimiters) (body : Bytes) (start header : ℕ) where
         }
 
     follows-ST : isSE here ≡ false → isST here ≡ true → Follows d body start header n at (unclosedAt header n at)
-    unfolding bodyOf trailerOf stray
+    unfolding bodyOf trailerOf outside
     follows-ST p g = record {
       others = refl;
       whole = rw (segments-at d body at end h q, p, g) (sym (append-nil _));
       trailer = rw (segments-at d body at end h q, p, g);
-      strays = rw (segments-at d body at end h q, g);
+      strays = rw (segments-at d body at end h q, p, g);
       headed = refl;
       counted = rw (segments-at d body at end h q, p, g) (omega arith);
       onward = omega arith;
@@ -98,12 +98,12 @@ module _ (d : Delimiters) (body : Bytes) (start header : ℕ) where
     }
 
     follows-other : isSE here ≡ false → isST here ≡ false → (r : SetAt) → Follows d body start header (n + 1) (end + 1) r → Follows d body start header n at r
-    unfolding bodyOf trailerOf setsOf stray
+    unfolding bodyOf trailerOf setsOf outside
     follows-other p g r f = record {
       others = rw (segments-at d body at end h q, g) (f .others);
       whole = f .whole ∙ rw (segments-part d w h q, append-assoc, segments-at d body at end h q, p, g);
       trailer = rw (segments-at d body at end h q, p, g) (f .trailer);
-      strays = rw (segments-at d body at end h q, p, g) (f .strays);
+      strays = rw (segments-at d body at end h q, p) (f .strays);
       headed = f .headed;
       counted = rw (segments-at d body at end h q, p, g) (omega (arith, f .counted));
       onward = omega (arith, f .onward);
@@ -155,18 +155,14 @@ pub record SetIs (d : Delimiters) (body : Bytes) (at : ℕ) (r : SetAt) : Type 0
   pub closed : isNone (setIn d body at r .trailer) ≡ not (r .closed)
   pub counted : r .segments ≡ length (segmentsOf (setIn d body at r))
   pub control : controlOf (setIn d body at r) ≡ controlAt d body at
-  pub strays : stray false (segments d (drop at body)) ≡ stray false (segments d (drop (r .end) body))
+  pub strays : outside (segments d (drop at body)) ≡ outside (segments d (drop (r .end) body))
   pub onward : at < r .end
   pub within : r .end ≤ length body + 1
 
 -- segments of which none is outside every set start with a header
-pub clean-starts : (s : Segment) (ss : List Segment) → stray false (s ∷ ss) ≡ false → isST s ≡ true
-unfolding stray
-clean-starts s ss e = go (isST s) (or-left (not (isST s) && true) _ e)
-  where
-    go : (b : Bool) → not b && true ≡ false → b ≡ true
-    go true h = refl
-    go false h = absurd (true≢false h)
+pub clean-starts : (s : Segment) (ss : List Segment) → outside (s ∷ ss) ≡ false → isST s ≡ true
+unfolding outside
+clean-starts s ss e = not-false (isST s) (or-left (not (isST s)) (inside ss) e)
 
 module _ (d : Delimiters) (body : Bytes) (at : ℕ) (r : SetAt) (h : at < length body) (q : r ≡ setAt d body at) where
   opened : Follows d body at (at + indexOf (d .terminator) (drop at body)) 1 (at + indexOf (d .terminator) (drop at body) + 1) r
@@ -184,7 +180,7 @@ module _ (d : Delimiters) (body : Bytes) (at : ℕ) (r : SetAt) (h : at < length
   header-at = segments-at d body at (r .header) h (opened .headed)
 
   pub set-is : isST (split (d .element) (take (r .header - at) (drop at body))) ≡ true → SetIs d body at r
-  unfolding setIn setsOf stray
+  unfolding setIn setsOf outside
   set-is st = record {
     first = rw (header-at, st) (ap (λ (l : List Set). setIn d body at r ∷ l) (after .others));
     whole = sym (after .whole ∙ rw (segments-new d body at (r .header) h (opened .headed)));
@@ -199,5 +195,5 @@ module _ (d : Delimiters) (body : Bytes) (at : ℕ) (r : SetAt) (h : at < length
   }
 
   -- where no segment is outside every set, a set starts at the place
-  pub set-next : stray false (segments d (drop at body)) ≡ false → SetIs d body at r
+  pub set-next : outside (segments d (drop at body)) ≡ false → SetIs d body at r
   set-next clean = set-is (clean-starts _ _ (rw header-at at clean))

@@ -1,9 +1,9 @@
 // The sets of a group, cut from its bytes. `body` is the segments between GS and GE; a place in it may be one past its end.
 ghost use mathlib.Core.Path.{_≡_};
+ghost use Rattle.rules.specs.Base.{first};
 ghost use Rattle.rules.specs.Cutting as cutting;
-ghost use Rattle.rules.specs.Refusals.{goodST};
+ghost use Rattle.rules.specs.Refusals.{goodST, setRules};
 ghost use Rattle.sets.specs.Places.{closedAt, unclosedAt, setAt};
-ghost use Rattle.sets.specs.Groups.{setRefusal};
 use rules::Delimiters;
 
 // The place of a set.
@@ -81,7 +81,7 @@ fn is_good_header(header: &[u8], d: Delimiters) -> bool
 
 // Refusals 11 to 13: a segment outside every set, no set, a header that cannot be answered; 0 for none.
 pub fn set_refusal(body: &[u8], d: Delimiters) -> u8
-    ensures { λ r. ⌜ r ≡ setRefusal d (cutting.segments d (now (body .entry))) ⌝ }
+    ensures { λ r. ⌜ r ≡ first (setRules d (cutting.segments d (now (body .entry)))) ⌝ }
 {
     if body.len() == 0 {
         return 12;

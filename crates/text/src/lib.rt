@@ -220,7 +220,7 @@ pub fn is_time(s: &[u8]) -> bool
 fn is_valid(b: u8, d: Delimiters) -> bool
     ensures { λ r. ⌜ r ≡ valid d b ⌝ }
 {
-    (32 <= b) & (b <= 126) & (b != d.element) & (b != d.component) & (b != d.terminator)
+    (32 <= b) & (b <= 126) & !d.is_mark(b)
 }
 
 // The place of the first byte from `from` on that is not valid; the length where there is none, and `from` where that is past the end.

@@ -9,8 +9,8 @@ use Rattle.acknowledgment.proofs.answer_group.Tie as tie
 -- what is read of GS
 abbrev IsHeaded : tie.After-edition-of → Type 0
 IsHeaded c =
-    let a = c .before .before .before .before .before .before .before .before .args in
-    Headed (split (c .before .before .before .before .before .delimiters .result .element) (part (a .i .now) (a .f .gs) (a .f .«gs_end»))) (c .before .before .is-supported .result) (c .edition-of .result)
+    let a = c .before .before .before .before .before .before .before .args in
+    Headed (split (a .d .element) (part (a .i .now) (a .f .gs) (a .f .«gs_end»))) (c .before .before .is-supported .result) (c .edition-of .result)
 
 header : (c : tie.After-edition-of) → IsHeaded c
 header c = headed _ (c .before .before .before .before .part .ensures) (c .before .before .before .field .ensures) (c .before .before .is-supported .ensures) (c .before .field2 .ensures) (c .edition-of .ensures)
@@ -18,32 +18,31 @@ header c = headed _ (c .before .before .before .before .part .ensures) (c .befor
 respond-requires : tie.Need-respond-requires
 respond-requires c κs =
     let e = c .before .before .before .before .before in
-    answerable _ _ (e .before .before .before .before .before .before .before .before .pre) (e .before .before .before .before .before .delimiters .ensures) (by-006010 (header e) (c .before .before .before .enum-told .given .1) (c .before .before .guide-006010 .ensures))
+    answerable _ _ (e .before .before .before .before .before .before .before .pre) (by-006010 (header e) (c .before .before .before .enum-told .given .1) (c .before .before .guide-006010 .ensures))
 
 respond-requires-2 : tie.Need-respond-requires-2
 respond-requires-2 c κs =
     let e = c .before .before .before .before .before in
-    answerable _ _ (e .before .before .before .before .before .before .before .before .pre) (e .before .before .before .before .before .delimiters .ensures) (by-004010 (header e) (c .before .before .before .enum-told2 .given .1) (c .before .before .guide-004010 .ensures))
+    answerable _ _ (e .before .before .before .before .before .before .before .pre) (by-004010 (header e) (c .before .before .before .enum-told2 .given .1) (c .before .before .guide-004010 .ensures))
 
 respond-requires-3 : tie.Need-respond-requires-3
 respond-requires-3 c κs =
     let e = c .before .before .before .before .before in
-    answerable _ _ (e .before .before .before .before .before .before .before .before .pre) (e .before .before .before .before .before .delimiters .ensures) (by-none (header e) (c .before .before .before .enum-told3 .given .1) (c .before .before .guide-0040102 .ensures))
+    answerable _ _ (e .before .before .before .before .before .before .before .pre) (by-none (header e) (c .before .before .before .enum-told3 .given .1) (c .before .before .guide-0040102 .ensures))
 
 returns : tie.Need-returns
-returns c = allowed _ _ _ (c .before .before .before .before .before .before .before .before .before .before .before .before .before .before .before .before .pre .0) (c .before .before .respond .ensures)
+returns c = allowed _ _ _ (c .before .before .before .before .before .before .before .before .before .before .before .before .before .before .before .pre .0) (c .before .before .respond .ensures)
 
 returns-2 : tie.Need-returns-2
-returns-2 c = allowed _ _ _ (c .before .before .before .before .before .before .before .before .before .before .before .before .before .before .before .before .pre .0) (c .before .before .respond2 .ensures)
+returns-2 c = allowed _ _ _ (c .before .before .before .before .before .before .before .before .before .before .before .before .before .before .before .pre .0) (c .before .before .respond2 .ensures)
 
 returns-3 : tie.Need-returns-3
-returns-3 c = allowed _ _ _ (c .before .before .before .before .before .before .before .before .before .before .before .before .before .before .before .before .pre .0) (c .before .before .respond3 .ensures)
+returns-3 c = allowed _ _ _ (c .before .before .before .before .before .before .before .before .before .before .before .before .before .before .before .pre .0) (c .before .before .respond3 .ensures)
 
 pub answer-group-spec : {M : Type 1} → statement M
 answer-group-spec =
     tie.close
     (tie.spec
-    (λ c κs. search needs)
     (λ c κs. search needs)
     (λ c κs. search needs)
     (λ c κs. search needs)

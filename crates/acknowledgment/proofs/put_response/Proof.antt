@@ -12,7 +12,7 @@ returns c =
     let gs = transaction .before .before .before .before in
     let isa = gs .before .before .before .before in
     let entry = isa .before .before .before .before .before .before .before in
-    response-made _ (entry .pre .0) (entry .pre .1 .0 .frame) (isa .before .before .part .ensures) (isa .add-isa .ensures) (gs .add-gs .ensures) (transaction .add-transaction-set .ensures)
+    response-made _ (entry .pre .0) (entry .pre .1 .0 .place) (isa .before .before .part .ensures) (isa .add-isa .ensures) (gs .add-gs .ensures) (transaction .add-transaction-set .ensures)
     (ge .add-ge .ensures) (iea .add-iea .ensures)
 
 pub put-response-spec : {M : Type 1} → statement M

@@ -7,22 +7,13 @@ use borrow.Author.Needs.{needs}
 use Rattle.caller.proofs.call_refusal.Statement.{statement}
 use Rattle.caller.proofs.call_refusal.Tie as tie
 
-is-date-requires : tie.Need-is-date-requires
-is-date-requires c κs = search needs
-
 returns : tie.Need-returns
 unfolding first callRules goodCall
 returns c = rw (sym (c .before .is-date .ensures) ∙ not-true _ (c .if1 .taken))
 
-is-time-requires : tie.Need-is-time-requires
-is-time-requires c κs = search needs
-
 returns-2 : tie.Need-returns-2
 unfolding first callRules goodCall
 returns-2 c = rw (sym (c .before .before .before .is-date .ensures) ∙ not-false _ (c .before .before .if1 .left), sym (c .before .is-time .ensures) ∙ not-true _ (c .if2 .taken))
-
-is-control-requires : tie.Need-is-control-requires
-is-control-requires c κs = search needs
 
 returns-3 : tie.Need-returns-3
 unfolding first callRules goodCall
@@ -36,10 +27,10 @@ pub call-refusal-spec : {M : Type 1} → statement M
 call-refusal-spec =
     tie.close
     (tie.spec
-    is-date-requires
+    (λ c κs. search needs)
     returns
-    is-time-requires
+    (λ c κs. search needs)
     returns-2
-    is-control-requires
+    (λ c κs. search needs)
     returns-3
     returns-4)

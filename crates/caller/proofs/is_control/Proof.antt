@@ -10,4 +10,6 @@ returns-2 : tie.Need-returns-2
 returns-2 c = rw (lt-leb _ _ (c .if1 .left))
 
 pub is-control-spec : {M : Type 1} → statement M
-is-control-spec = tie.close (tie.spec returns returns-2)
+is-control-spec = tie.close (tie.spec
+    returns
+    returns-2)

@@ -4,9 +4,6 @@ use borrow.Author.Needs.{needs}
 use Rattle.caller.proofs.is_date.Statement.{statement}
 use Rattle.caller.proofs.is_date.Tie as tie
 
-is-day-requires : tie.Need-is-day-requires
-is-day-requires c κs = search needs
-
 returns : tie.Need-returns
 returns c = rw (le-leb _ _ (c .before .if1 .taken)) (c .is-day .ensures)
 
@@ -14,4 +11,7 @@ returns-2 : tie.Need-returns-2
 returns-2 c = rw (lt-leb _ _ (c .if1 .left))
 
 pub is-date-spec : {M : Type 1} → statement M
-is-date-spec = tie.close (tie.spec is-day-requires returns returns-2)
+is-date-spec = tie.close (tie.spec
+    (λ c κs. search needs)
+    returns
+    returns-2)

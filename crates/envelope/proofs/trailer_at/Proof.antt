@@ -8,15 +8,6 @@ use borrow.Author.Needs.{needs}
 use Rattle.envelope.proofs.trailer_at.Statement.{statement}
 use Rattle.envelope.proofs.trailer_at.Tie as tie
 
-find-requires : tie.Need-find-requires
-find-requires c κs = search needs
-
-slice-aggregate-is-named-at : tie.Need-slice-aggregate-is-named-at
-slice-aggregate-is-named-at c = search needs
-
-is-named-at-requires : tie.Need-is-named-at-requires
-is-named-at-requires c κs = search needs
-
 add-t9 : tie.Need-add-t9
 unfolding same
 add-t9 c =
@@ -34,9 +25,9 @@ pub trailer-at-spec : {M : Type 1} → statement M
 trailer-at-spec =
     tie.close
     (tie.spec
-    find-requires
-    slice-aggregate-is-named-at
-    is-named-at-requires
+    (λ c κs. search needs)
+    (λ c. search needs)
+    (λ c κs. search needs)
     add-t9
     returns
     returns-2)

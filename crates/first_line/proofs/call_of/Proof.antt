@@ -7,21 +7,20 @@ use Rattle.first_line.proofs.Laws.{no-call, call-at}
 use Rattle.first_line.proofs.call_of.Statement.{statement}
 use Rattle.first_line.proofs.call_of.Tie as tie
 
-find-requires : tie.Need-find-requires
-find-requires c κs = search needs
-
 returns : tie.Need-returns
 returns c = sym (no-call _ _ (c .before .find .ensures) (c .if1 .taken))
 
 slice-aggregate-call-on : tie.Need-slice-aggregate-call-on
 slice-aggregate-call-on c = sym (length-take-le (c .before .before .find .result) (c .before .before .before .before .args .input .now) (omega arith))
 
-call-on-requires : tie.Need-call-on-requires
-call-on-requires c κs = search needs
-
 returns-2 : tie.Need-returns-2
 returns-2 c = c .call-on .ensures ∙ sym (call-at _ _ (c .before .before .before .find .ensures) (c .before .before .if1 .left))
 
 pub call-of-spec : {M : Type 1} → statement M
 call-of-spec =
-    tie.close (tie.spec find-requires returns slice-aggregate-call-on call-on-requires returns-2)
+    tie.close (tie.spec
+    (λ c κs. search needs)
+    returns
+    slice-aggregate-call-on
+    (λ c κs. search needs)
+    returns-2)

@@ -16,32 +16,17 @@ passed c = sym (c .before .is-call .ensures) ∙ not-false _ (c .if1 .left)
 parts : (c : tie.Else1) → Call-line (c .before .before .before .args .line .now)
 parts c = call-line _ (passed c)
 
-is-call-requires : tie.Need-is-call-requires
-is-call-requires c κs = search needs
-
 returns : tie.Need-returns
 returns c = rw (sym (c .before .is-call .ensures) ∙ not-true _ (c .if1 .taken))
 
 slice-aggregate-value : tie.Need-slice-aggregate-value
 slice-aggregate-value c = let p = parts (c .before) in sym (length-take-le 8 (c .before .before .before .before .args .line .now) (omega arith))
 
-value-requires : tie.Need-value-requires
-value-requires c κs = search needs
-
 cast-date : tie.Need-cast-date
 cast-date c = let small = nine-digits 8 8 _ _ (parts (c .before .before) .date) (omega arith) (c .value .ensures) in omega arith
 
-sub-value : tie.Need-sub-value
-sub-value c = search needs
-
-part-value-start : tie.Need-part-value-start
-part-value-start c = search needs
-
 part-value-end : tie.Need-part-value-end
 part-value-end c = let p = parts (c .before .before) in omega arith
-
-value-requires-2 : tie.Need-value-requires-2
-value-requires-2 c κs = search needs
 
 cast-time : tie.Need-cast-time
 cast-time c = let small = nine-digits 4 4 _ _ (parts (c .before .before .before .before) .time) (omega arith) (c .value2 .ensures) in omega arith
@@ -51,12 +36,6 @@ sub-value-2 c = let p = parts (c .before .before .before .before) in omega arith
 
 part-value-start-2 : tie.Need-part-value-start-2
 part-value-start-2 c = let p = parts (c .before .before .before .before) in omega arith
-
-part-value-end-2 : tie.Need-part-value-end-2
-part-value-end-2 c = search needs
-
-value-requires-3 : tie.Need-value-requires-3
-value-requires-3 c κs = search needs
 
 cast-control : tie.Need-cast-control
 cast-control c = let small = nine-digits 1 9 _ _ (parts (c .before .before .before .before .before .before) .control) (omega arith) (c .value3 .ensures) in omega arith
@@ -68,20 +47,20 @@ pub call-on-spec : {M : Type 1} → statement M
 call-on-spec =
     tie.close
     (tie.spec
-    is-call-requires
+    (λ c κs. search needs)
     returns
     slice-aggregate-value
-    value-requires
+    (λ c κs. search needs)
     cast-date
-    sub-value
-    part-value-start
+    (λ c. search needs)
+    (λ c. search needs)
     part-value-end
-    value-requires-2
+    (λ c κs. search needs)
     cast-time
     sub-value-2
     part-value-start-2
-    part-value-end-2
-    value-requires-3
+    (λ c. search needs)
+    (λ c κs. search needs)
     cast-control
     (λ c. search needs)
     returns-2)

@@ -15,50 +15,17 @@ returns c = sym (too-short _ (c .if1 .taken))
 slice-aggregate-is-digits : tie.Need-slice-aggregate-is-digits
 slice-aggregate-is-digits c = sym (length-take-le 8 (c .before .before .before .args .line .now) (omega arith))
 
-is-digits-requires : tie.Need-is-digits-requires
-is-digits-requires c κs = search needs
-
 returns-2 : tie.Need-returns-2
 returns-2 c = sym (by-tests _ false _ _ _ _ (sym (c .before .is-digits .ensures) ∙ not-true _ (c .if2 .taken)) refl refl refl refl)
-
-shared-slice-read-if3 : tie.Need-shared-slice-read-if3
-shared-slice-read-if3 c = search needs
 
 returns-3 : tie.Need-returns-3
 returns-3 c = sym (by-tests _ true false _ _ _ (sym (c .before .before .before .is-digits .ensures) ∙ not-false _ (c .before .before .if2 .left)) (ne-eqb _ _ (c .if3 .taken)) refl refl refl)
 
-sub-is-digits : tie.Need-sub-is-digits
-sub-is-digits c = search needs
-
-part-is-digits-start : tie.Need-part-is-digits-start
-part-is-digits-start c = search needs
-
-part-is-digits-end : tie.Need-part-is-digits-end
-part-is-digits-end c = search needs
-
-is-digits-requires-2 : tie.Need-is-digits-requires-2
-is-digits-requires-2 c κs = search needs
-
 returns-4 : tie.Need-returns-4
 returns-4 c = sym (by-tests _ true true false _ _ (sym (c .before .before .before .before .before .before .is-digits .ensures) ∙ not-false _ (c .before .before .before .before .before .if2 .left)) (eq-eqb _ _ (c .before .before .before .if3 .left)) (sym (c .before .is-digits2 .ensures) ∙ not-true _ (c .if4 .taken)) refl refl)
 
-shared-slice-read-if5 : tie.Need-shared-slice-read-if5
-shared-slice-read-if5 c = search needs
-
 returns-5 : tie.Need-returns-5
 returns-5 c = sym (by-tests _ true true true false _ (sym (c .before .before .before .before .before .before .before .before .is-digits .ensures) ∙ not-false _ (c .before .before .before .before .before .before .before .if2 .left)) (eq-eqb _ _ (c .before .before .before .before .before .if3 .left)) (sym (c .before .before .before .is-digits2 .ensures) ∙ not-false _ (c .before .before .if4 .left)) (ne-eqb _ _ (c .if5 .taken)) refl)
-
-sub-is-digits-2 : tie.Need-sub-is-digits-2
-sub-is-digits-2 c = search needs
-
-part-is-digits-start-2 : tie.Need-part-is-digits-start-2
-part-is-digits-start-2 c = search needs
-
-part-is-digits-end-2 : tie.Need-part-is-digits-end-2
-part-is-digits-end-2 c = search needs
-
-is-digits-requires-3 : tie.Need-is-digits-requires-3
-is-digits-requires-3 c κs = search needs
 
 returns-6 : tie.Need-returns-6
 returns-6 c = sym (by-tests _ true true true true _ (sym (c .before .before .before .before .before .before .before .before .before .before .is-digits .ensures) ∙ not-false _ (c .before .before .before .before .before .before .before .before .before .if2 .left)) (eq-eqb _ _ (c .before .before .before .before .before .before .before .if3 .left)) (sym (c .before .before .before .before .before .is-digits2 .ensures) ∙ not-false _ (c .before .before .before .before .if4 .left)) (eq-eqb _ _ (c .before .before .if5 .left)) (sym (c .is-digits3 .ensures)))
@@ -69,19 +36,19 @@ is-call-spec =
     (tie.spec
     returns
     slice-aggregate-is-digits
-    is-digits-requires
+    (λ c κs. search needs)
     returns-2
-    shared-slice-read-if3
+    (λ c. search needs)
     returns-3
-    sub-is-digits
-    part-is-digits-start
-    part-is-digits-end
-    is-digits-requires-2
+    (λ c. search needs)
+    (λ c. search needs)
+    (λ c. search needs)
+    (λ c κs. search needs)
     returns-4
-    shared-slice-read-if5
+    (λ c. search needs)
     returns-5
-    sub-is-digits-2
-    part-is-digits-start-2
-    part-is-digits-end-2
-    is-digits-requires-3
+    (λ c. search needs)
+    (λ c. search needs)
+    (λ c. search needs)
+    (λ c κs. search needs)
     returns-6)

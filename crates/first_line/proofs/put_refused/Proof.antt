@@ -14,4 +14,14 @@ returns c =
     whole (seq (seq (e1 .add-bytes .ensures) (e2 .add-number .ensures)) (e3 .add-byte .ensures))
 
 pub put-refused-spec : {M : Type 1} → statement M
-put-refused-spec = tie.close (tie.spec (λ c. search needs) (λ c κs. search needs) (λ c κs. search needs) (λ c κs. search needs) (λ c. stays (returns c)) returns)
+put-refused-spec = tie.close (tie.spec
+    (λ c. search needs)
+    (λ c κs. search needs)
+    (λ c κs. search needs)
+    (λ c κs. search needs)
+    (λ
+    c.
+    stays
+    (returns c)
+    )
+    returns)

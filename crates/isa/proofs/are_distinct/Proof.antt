@@ -1,23 +1,40 @@
 -- `isa::are_distinct` meets its contract.
-use borrow.Author.Tests.{eq-eqb, ne-eqb}
-use Rattle.rules.specs.Base.{any}
-use Rattle.rules.specs.Cutting.{marks}
+use Prim.Native.Nat.{_-_}
+use mathlib.Core.Path.{_≡_, sym, _∙_}
+use borrow.Author.Needs.{needs}
+use lib.ListN.{length, drop}
 use Rattle.rules.specs.Refusals.{distinct}
-use Rattle.text.proofs.Loops.{and-true, or-false}
+use Rattle.isa.proofs.Marks.{distinct-not, distinct-step, distinct-end}
 use Rattle.isa.proofs.are_distinct.Statement.{statement}
 use Rattle.isa.proofs.are_distinct.Tie as tie
 
-returns : tie.Need-returns
-unfolding distinct marks any
-returns c = rw (eq-eqb _ _ (c .if1 .taken))
+abbrev Inv-loop : tie.InvT-loop
+Inv-loop bytes k₀ k = distinct bytes ≡ distinct (drop k bytes)
 
-returns-2 : tie.Need-returns-2
-unfolding distinct marks any
-returns-2 c = rw (ne-eqb _ _ (c .before .before .if1 .left), eq-eqb _ _ (c .if2 .taken))
+abbrev μ-loop : tie.MeasureT-loop
+μ-loop bytes k₀ k = length bytes - k
 
-returns-3 : tie.Need-returns-3
-unfolding distinct marks any
-returns-3 c = rw (ne-eqb _ _ (c .before .before .before .if1 .left), ne-eqb _ _ (c .before .if2 .left), or-false, and-true)
+returns : tie.Need-returns Inv-loop μ-loop
+returns c = sym (c .before .before .before .before .loop .inv ∙ distinct-not _ _ _ (c .before .before .before .loop-test .taken) (c .before .find .ensures) (c .if1 .taken))
+
+loop-again : tie.Need-loop-again Inv-loop μ-loop
+loop-again c = c .before .before .before .before .loop .inv ∙ distinct-step _ _ _ (c .before .before .before .loop-test .taken) (c .before .find .ensures) (c .if1 .left)
+
+returns-2 : tie.Need-returns-2 Inv-loop μ-loop
+returns-2 c = sym (c .before .loop .inv ∙ distinct-end _ _ (c .loop-test .left))
 
 pub are-distinct-spec : {M : Type 1} → statement M
-are-distinct-spec = tie.close (tie.spec returns returns-2 returns-3)
+are-distinct-spec =
+    tie.close
+    (tie.spec
+    Inv-loop
+    μ-loop
+    (λ c. search needs)
+    (λ c. search needs)
+    (λ c. search needs)
+    (λ c κs. search needs)
+    returns
+    (λ c. search needs)
+    (λ c. search needs)
+    loop-again
+    returns-2)

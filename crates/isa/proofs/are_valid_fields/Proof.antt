@@ -17,23 +17,8 @@ Inv-loop i d n₀ n = all (all (valid d)) (isa i) ≡ all (all (valid d)) (drop 
 abbrev μ-loop : tie.MeasureT-loop
 μ-loop i d n₀ n = 16 - n
 
-loop-holds : tie.Need-loop-holds Inv-loop μ-loop
-loop-holds c = search needs
-
-isa-field-requires : tie.Need-isa-field-requires Inv-loop μ-loop
-isa-field-requires c κs = search needs
-
-all-valid-requires : tie.Need-all-valid-requires Inv-loop μ-loop
-all-valid-requires c κs = search needs
-
 returns : tie.Need-returns Inv-loop μ-loop
 returns c = sym (c .before .before .before .before .loop .inv ∙ test-step _ _ (isa-length _) _ [] _ _ (c .before .before .before .loop-test .taken) (c .before .before .isa-field .ensures) (sym (c .before .all-valid .ensures) ∙ not-true _ (c .if1 .taken)))
-
-add-n : tie.Need-add-n Inv-loop μ-loop
-add-n c = search needs
-
-loop-less : tie.Need-loop-less Inv-loop μ-loop
-loop-less c = search needs
 
 loop-again : tie.Need-loop-again Inv-loop μ-loop
 loop-again c = c .before .before .before .before .loop .inv ∙ test-step _ _ (isa-length _) _ [] _ _ (c .before .before .before .loop-test .taken) (c .before .before .isa-field .ensures) (sym (c .before .all-valid .ensures) ∙ not-false _ (c .if1 .left))
@@ -47,11 +32,11 @@ are-valid-fields-spec =
     (tie.spec
     Inv-loop
     μ-loop
-    loop-holds
-    isa-field-requires
-    all-valid-requires
+    (λ c. search needs)
+    (λ c κs. search needs)
+    (λ c κs. search needs)
     returns
-    add-n
-    loop-less
+    (λ c. search needs)
+    (λ c. search needs)
     loop-again
     returns-2)

@@ -32,4 +32,12 @@ returns-8 c = sym (plain-lower _ (c .before .if5 .left) (omega arith))
 pub is-plain-spec : {M : Type 1} → statement M
 is-plain-spec =
     tie.close
-    (tie.spec returns returns-2 returns-3 returns-4 returns-5 returns-6 returns-7 returns-8)
+    (tie.spec
+    returns
+    returns-2
+    returns-3
+    returns-4
+    returns-5
+    returns-6
+    returns-7
+    returns-8)

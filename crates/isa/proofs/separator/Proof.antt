@@ -5,15 +5,12 @@ use borrow.Author.Needs.{needs}
 use Rattle.isa.proofs.separator.Statement.{statement}
 use Rattle.isa.proofs.separator.Tie as tie
 
-mul-result : tie.Need-mul-result
-mul-result c = search needs
-
-array-read-result : tie.Need-array-read-result
-array-read-result c = search needs
-
 returns : tie.Need-returns
 unfolding separators
 returns c = refl
 
 pub separator-spec : {M : Type 1} → statement M
-separator-spec = tie.close (tie.spec mul-result array-read-result returns)
+separator-spec = tie.close (tie.spec
+    (λ c. search needs)
+    (λ c. search needs)
+    returns)

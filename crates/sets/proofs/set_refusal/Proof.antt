@@ -4,11 +4,10 @@ use borrow.Author.Tests.{not-true, not-false}
 use mathlib.Core.Path.{_≡_, sym, ap, _∙_}
 use Prim.Native.Nat.{_+_, _-_}
 use lib.ListN.{length, drop}
-use Rattle.rules.specs.Base.{Bytes}
+use Rattle.rules.specs.Base.{Bytes, first}
 use Rattle.rules.specs.Cutting.{split, segments}
 use Rattle.rules.specs.Sets.{isST}
-use Rattle.rules.specs.Refusals.{goodST}
-use Rattle.sets.specs.Groups.{setRefusal}
+use Rattle.rules.specs.Refusals.{goodST, setRules}
 use Rattle.sets.proofs.Sets.{SetIs, set-is}
 use Rattle.sets.proofs.Refused.{refusalFrom, refusal-none, refusal-start, refusal-end, refusal-stray, refusal-good, refusal-bad}
 use native.Mathlib.Omega.{arith}
@@ -16,7 +15,7 @@ use Rattle.sets.proofs.set_refusal.Statement.{statement}
 use Rattle.sets.proofs.set_refusal.Tie as tie
 
 abbrev Inv-loop : tie.InvT-loop
-Inv-loop body d refusal₀ at₀ t7 refusal at = setRefusal d (segments d body) ≡ refusalFrom d refusal (segments d (drop at body))
+Inv-loop body d refusal₀ at₀ t7 refusal at = first (setRules d (segments d body)) ≡ refusalFrom d refusal (segments d (drop at body))
 
 abbrev μ-loop : tie.MeasureT-loop
 μ-loop body d refusal₀ at₀ t7 refusal at = length body + 1 - at
@@ -27,27 +26,12 @@ returns c = let a = c .before .before .args in sym (refusal-none (a .d) (a .body
 loop-holds : tie.Need-loop-holds Inv-loop μ-loop
 loop-holds c = let a = c .before .before .args in refusal-start (a .d) (a .body .now) (omega arith)
 
-next-set-requires : tie.Need-next-set-requires Inv-loop μ-loop
-next-set-requires c κs = search needs
-
-part-requires : tie.Need-part-requires Inv-loop μ-loop
-part-requires c κs = search needs
-
-slice-aggregate-is-named : tie.Need-slice-aggregate-is-named Inv-loop μ-loop
-slice-aggregate-is-named c = search needs
-
-is-named-requires : tie.Need-is-named-requires Inv-loop μ-loop
-is-named-requires c κs = search needs
-
 returns-2 : tie.Need-returns-2 Inv-loop μ-loop
 returns-2 c =
     let l = c .before .before .before .before .before .before in
     let d = l .before .before .before .args .d in
     let named = ap (λ (s : Bytes). isST (split (d .element) s)) (sym (c .before .before .before .part .ensures)) ∙ sym (c .before .is-named .ensures) ∙ not-true _ (c .if2 .taken) in
     sym (l .loop .inv ∙ refusal-stray _ _ _ _ _ (c .before .before .before .before .before .loop-test .taken) (c .before .before .before .before .next-set .ensures) named)
-
-is-good-header-requires : tie.Need-is-good-header-requires Inv-loop μ-loop
-is-good-header-requires c κs = search needs
 
 -- past the test of its name, the segment at the place is the header of a set
 abbrev IsSet : tie.Else2 Inv-loop μ-loop → Type 0
@@ -88,12 +72,12 @@ set-refusal-spec =
     μ-loop
     returns
     loop-holds
-    next-set-requires
-    part-requires
-    slice-aggregate-is-named
-    is-named-requires
+    (λ c κs. search needs)
+    (λ c κs. search needs)
+    (λ c. search needs)
+    (λ c κs. search needs)
     returns-2
-    is-good-header-requires
+    (λ c κs. search needs)
     loop-less
     loop-again
     loop-less-2
