@@ -175,61 +175,6 @@ pub struct Call {
     pub control: u32,
 }
 
-// A code of AK3: what is wrong with a segment.
-pub struct SegmentCode {
-    pub number: u8,
-}
-
-impl SegmentCode {
-    pub const NOT_KNOWN: u8 = 1;
-
-    pub const MISSING: u8 = 3;
-
-    pub const BEYOND_MAXIMUM: u8 = 5;
-
-    pub const NOT_IN_TABLE: u8 = 6;
-
-    pub const OUT_OF_ORDER: u8 = 7;
-
-    pub const HAS_FINDINGS: u8 = 8;
-}
-
-// A code of AK5: what is wrong with a set.
-pub struct SetCode {
-    pub number: u8,
-}
-
-impl SetCode {
-    pub const NOT_SUPPORTED: u8 = 1;
-
-    pub const NO_TRAILER: u8 = 2;
-
-    pub const OTHER_CONTROL: u8 = 3;
-
-    pub const OTHER_COUNT: u8 = 4;
-
-    pub const HAS_NOTES: u8 = 5;
-
-    pub const REPEATED: u8 = 23;
-}
-
-// A code of AK9: what is wrong with a group.
-pub struct GroupCode {
-    pub number: u8,
-}
-
-impl GroupCode {
-    pub const NOT_SUPPORTED: u8 = 1;
-
-    pub const NO_TABLE: u8 = 2;
-
-    pub const NO_TRAILER: u8 = 3;
-
-    pub const OTHER_CONTROL: u8 = 4;
-
-    pub const OTHER_COUNT: u8 = 5;
-}
-
 // What a caller gets: the response with its length, a refusal with its number, or the length that the buffer lacks.
 pub enum Answer {
     Written(usize),
