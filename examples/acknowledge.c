@@ -5,6 +5,7 @@
 #include "acknowledgment.h"
 
 #include <inttypes.h>
+#include <stdbool.h>
 #include <stdio.h>
 #include <stdlib.h>
 
@@ -23,16 +24,31 @@ static void stop(const char *what)
     exit(2);
 }
 
+/* Whether a number of so many digits comes next, and right behind it the byte `end`. */
+static bool read_number(FILE *file, int fewest, int most, int end, uint32_t *number)
+{
+    int byte = fgetc(file), digits = 0;
+    *number = 0;
+    while (digits < most && byte >= '0' && byte <= '9') {
+        *number = *number * 10 + (uint32_t)(byte - '0');
+        digits++;
+        byte = fgetc(file);
+    }
+    return digits >= fewest && byte == end;
+}
+
 static void read_exchange(struct exchange *exchange, const char *path)
 {
     FILE *file = fopen(path, "rb");
     if (file == NULL)
         stop("cannot open the file");
-    int numbers = fscanf(file, "%8" SCNu32 " %4" SCNu32 " %9" SCNu32,
-                         &exchange->date, &exchange->time, &exchange->control);
-    if (numbers != 3 || fgetc(file) != '\n')
+    if (!read_number(file, 8, 8, ' ', &exchange->date) ||
+        !read_number(file, 4, 4, ' ', &exchange->time) ||
+        !read_number(file, 1, 9, '\n', &exchange->control))
         stop("the first line is not date, time and control number");
     exchange->length = fread(exchange->interchange, 1, INTERCHANGE, file);
+    if (ferror(file))
+        stop("cannot read the file");
     fclose(file);
 }
 
@@ -52,5 +68,7 @@ int main(int argc, char **argv)
         fwrite(response, 1, length, stdout);
     else
         printf("refused %" PRIu32 "\n", number);
+    if (fflush(stdout) != 0)
+        stop("cannot write the answer");
     return number == 0 ? EXIT_SUCCESS : EXIT_FAILURE;
 }

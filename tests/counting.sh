@@ -1,9 +1,21 @@
-# Sourced by the parts of the gate: tests that hold what a command prints to a file.
+# Sourced by the parts of the gate: tests that hold a command to its status, and to a file.
 # shellcheck shell=bash
 passed=0
 failed=0
 printed=$(mktemp)
 trap 'rm -f "$printed"' EXIT
+
+# holds NAME COMMAND..: COMMAND succeeds.
+holds() {
+    local name=$1
+    shift
+    if "$@"; then
+        passed=$((passed + 1))
+    else
+        failed=$((failed + 1))
+        echo "FAILED: $name"
+    fi
+}
 
 # prints NAME FILE COMMAND..: COMMAND succeeds, and prints what FILE holds.
 prints() {
@@ -19,9 +31,12 @@ prints() {
     fi
 }
 
-# fails COMMAND..: COMMAND does not succeed.
-fails() {
-    ! "$@"
+# ends STATUS COMMAND..: COMMAND ends with this status.
+ends() {
+    local status=$1
+    shift
+    "$@"
+    [ $? -eq "$status" ]
 }
 
 summary() {

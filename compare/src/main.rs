@@ -6,9 +6,13 @@ mod outcome;
 mod pair;
 mod program;
 mod response;
+#[cfg(test)]
+mod segments;
 mod show;
 mod shrink;
 mod tally;
+#[cfg(test)]
+mod wrong;
 
 use std::io;
 use std::path::Path;

@@ -41,7 +41,7 @@ impl Outcome {
 }
 
 /// What `call` makes of a buffer of this case, of which every byte is `lent`.
-fn outcome(case: &Case, lent: u8, call: impl FnOnce(&mut [u8]) -> (u32, usize)) -> Outcome {
+pub fn outcome(case: &Case, lent: u8, call: impl FnOnce(&mut [u8]) -> (u32, usize)) -> Outcome {
     let mut memory = vec![lent; MARGIN + case.buffer_length + MARGIN];
     let (number, length) = call(&mut memory[MARGIN..][..case.buffer_length]);
     Outcome {

@@ -93,6 +93,23 @@ fn the_limits_of_size_are_met_from_both_sides() {
 }
 
 #[test]
+fn groups_and_sets_are_as_large_as_fits() {
+    let (mut most_sets, mut most_segments) = (0, 0);
+    let large = [Family::ManySets, Family::ManyNotes];
+    let indices = (0..20_000).filter(|&index| large.contains(&Family::of(SEED, index)));
+    for index in indices {
+        let interchange = Case::make(SEED, index).interchange;
+        assert!(interchange.len() <= 65_536, "{index}");
+        let segments = interchange.split(|&byte| byte == interchange[105]);
+        let headers = |segment: &&[u8]| segment.starts_with(&[b'S', b'T', interchange[3]]);
+        most_segments = most_segments.max(segments.clone().count());
+        most_sets = most_sets.max(segments.filter(headers).count());
+    }
+    assert!(most_sets > 5_400, "{most_sets}");
+    assert!(most_segments > 65_000, "{most_segments}");
+}
+
+#[test]
 fn whole_exchanges_have_good_and_bad_first_lines() {
     let (mut good, mut bad) = (0, 0);
     for index in 0..3_000 {

@@ -2,10 +2,8 @@
 
 use super::*;
 use crate::outcome::of_second;
+use crate::segments::{cut, joined, number, Segments};
 use std::collections::BTreeSet;
-
-/// The segments of a response, each as its id and its elements.
-type Segments = Vec<Vec<Vec<u8>>>;
 
 /// What is found in pairs of a library that is the second program but for
 /// what `spoil` does.
@@ -27,37 +25,14 @@ fn is_caught(fault: Fault, edit: impl Fn(&mut Segments)) {
         let (separator, terminator) = (outcome.response()[3], outcome.response()[105]);
         let mut segments = cut(outcome.response(), separator, terminator);
         edit(&mut segments);
-        write(outcome, &joined(segments, separator, terminator));
+        write(outcome, &joined(&segments, separator, terminator));
     });
     assert!(found.contains(&fault), "{found:?}");
-}
-
-fn cut(response: &[u8], separator: u8, terminator: u8) -> Segments {
-    let fields = |segment: &[u8]| {
-        let fields = segment.split(|&byte| byte == separator);
-        fields.map(<[u8]>::to_vec).collect()
-    };
-    response
-        .split(|&byte| byte == terminator)
-        .map(fields)
-        .collect()
-}
-
-fn joined(segments: Segments, separator: u8, terminator: u8) -> Vec<u8> {
-    let segments: Vec<Vec<u8>> = segments
-        .iter()
-        .map(|segment| segment.join(&separator))
-        .collect();
-    segments.join(&terminator)
 }
 
 fn write(outcome: &mut Outcome, response: &[u8]) {
     outcome.length = response.len();
     outcome.buffer_mut()[..response.len()].copy_from_slice(response);
-}
-
-fn number(value: usize) -> Vec<u8> {
-    value.to_string().into_bytes()
 }
 
 fn find<'a>(segments: &'a mut Segments, id: &str) -> &'a mut Vec<Vec<u8>> {
@@ -100,7 +75,7 @@ fn another_separator_is_caught() {
         let (separator, terminator) = (outcome.response()[3], outcome.response()[105]);
         if outcome.response().windows(3).any(|id| id == b"ZZZ") {
             let segments = cut(outcome.response(), separator, terminator);
-            write(outcome, &joined(segments, b'\x01', terminator));
+            write(outcome, &joined(&segments, b'\x01', terminator));
         }
     });
     assert!(found.contains(&Fault::Delimiters));

@@ -11,6 +11,7 @@ use Rattle.rules.specs.Cutting.{delimiters, split}
 use Rattle.rules.specs.Refusals.{headRules, refusal}
 use Rattle.rules.specs.Response.{response}
 use Rattle.rules.specs.Answers.{fitting, answer, buffer, outcome, Allowed, called}
+use Rattle.rules.specs.declared.Call.{Call}
 use Rattle.rules.specs.declared.Answer.{Answer}
 use Rattle.rules.specs.declared.Answer.the-variants.{Written, Refused, TooLong}
 use Rattle.rules.specs.declared.Delimiters.{Delimiters}
@@ -21,8 +22,8 @@ use Rattle.guides.specs.Choice.{scopeIn}
 use Rattle.guides.specs.declared.Scope.{Scope}
 use Rattle.guides.proofs.Chosen.{allRows, table-chosen, table-stands}
 use Rattle.text.specs.Text.{part}
-use Rattle.frame.specs.declared.Frame.{Frame}
-use Rattle.frame.proofs.Laws.{FrameIs}
+use Rattle.envelope.specs.declared.Frame.{Frame}
+use Rattle.envelope.proofs.Laws.{FrameIs}
 use Rattle.sets.proofs.Refused.{passed}
 use Rattle.refusals.specs.Checks.{checked}
 use Rattle.refusals.specs.declared.Checked.the-variants as checks
@@ -57,11 +58,11 @@ short-of i u =
     leb-true (length i) 65536 (and-right (leb 106 (length i)) (leb (length i) 65536) (not-false _ long))
 
 -- with the directory and the rows of document 01 and the scope of its GS it has all that the writer asks for
-pub answerable : (i : Bytes) (date time control : ℕ) {d : Delimiters} {f : Frame} {ids : List (List ℕ)} {rows : Guide} {scope : Scope}
-    → (refusal i date time control ≡ 0) × FrameIs (delimiters i) i f → d ≡ delimiters i → ids ≡ directoryRows → rows ≡ allRows
+pub answerable : (i : Bytes) (call : Call) {d : Delimiters} {f : Frame} {ids : List (List ℕ)} {rows : Guide} {scope : Scope}
+    → (refusal i call ≡ 0) × FrameIs (delimiters i) i f → d ≡ delimiters i → ids ≡ directoryRows → rows ≡ allRows
     → scope ≡ scopeIn (split (d .element) (part i (f .gs) (f .«gs_end»))) → Answerable d i f ids rows scope
-answerable i date time control (e, w) q p r s =
-    let u = unrefused i date time control e in
+answerable i call (e, w) q p r s =
+    let u = unrefused i call e in
     record {
       cut = q;
       frame = rw q w;
@@ -73,20 +74,20 @@ answerable i date time control (e, w) q p r s =
     }
 
 -- 3. The answer and its outcome.
-module _ (i lent : Bytes) (date time control : ℕ) where
+module _ (i lent : Bytes) (call : Call) where
   -- without a refusal, the response decides
-  pub allowed : {a : Answer} {left : Bytes} → refusal i date time control ≡ 0
-      → (a ≡ fitting (response i date time control) (length lent)) × (left ≡ buffer a (response i date time control) lent)
-      → Allowed i lent date time control a left
+  pub allowed : {a : Answer} {left : Bytes} → refusal i call ≡ 0
+      → (a ≡ fitting (response i call) (length lent)) × (left ≡ buffer a (response i call) lent)
+      → Allowed i lent call a left
   unfolding Allowed answer
   allowed e p = (rw e (p .0), p .1)
 
   -- a refusal leaves the buffer as it was
-  pub refused-allowed : {n : ℕ} → checks.Refused n ≡ checked i date time control → Allowed i lent date time control (Refused n) lent
+  pub refused-allowed : {n : ℕ} → checks.Refused n ≡ checked i call → Allowed i lent call (Refused n) lent
   unfolding Allowed answer
-  refused-allowed {n} e = let due = refused-due i date time control e in (rw (← due .0, ne-eqb n 0 (due .1)), refl)
+  refused-allowed {n} e = let due = refused-due i call e in (rw (← due .0, ne-eqb n 0 (due .1)), refl)
 
   -- what is allowed has the outcome of the call
-  pub allowed-outcome : (a : Answer) {left : Bytes} → Allowed i lent date time control a left → outcome a left ≡ called i lent date time control
+  pub allowed-outcome : (a : Answer) {left : Bytes} → Allowed i lent call a left → outcome a left ≡ called i lent call
   unfolding Allowed called
   allowed-outcome a p = rw (p .1, p .0)

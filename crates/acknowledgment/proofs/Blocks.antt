@@ -11,7 +11,8 @@ use lib.ListN.{length, take, drop, length-append, length-take, length-drop}
 use Rattle.rules.specs.Base.{Bytes, _⇒_, every, ascii, null, any, isNone, member, if_then_else_}
 use Rattle.rules.specs.Cutting.{Segment, field, split, segments}
 use Rattle.rules.specs.Numbers.{decimal}
-use Rattle.rules.specs.Tables.{Table, tableOf}
+use Rattle.rules.specs.Tables.{Table}
+use Rattle.tables.specs.Rows.{tableOf}
 use Rattle.rules.specs.Segments.{Note}
 use Rattle.rules.specs.Sets.{Set, SetReport, segmentsOf, controlOf, notesIn, setCodes, setReport, accepted}
 use Rattle.rules.specs.Response.{fieldsOut, segmentOut, out, ak2, ak3, ak3s, ak5, block}

@@ -12,6 +12,7 @@ use Rattle.rules.specs.Tables.{Table}
 use Rattle.rules.specs.Sets.{Set}
 use Rattle.rules.specs.Groups.{Group, GroupReport, groupOf, groupReport, sets, tableIn, setReports, acceptedIn}
 use Rattle.rules.specs.Response.{segmentOut, out, ak1, ak9, blocks, stOut, seOut, told, transactionSet, respond, response}
+use Rattle.rules.specs.declared.Call.{Call}
 use Rattle.rules.specs.declared.Delimiters.{Delimiters}
 use Rattle.rules.proofs.Bound.{response-bound}
 use Rattle.rules.proofs.Facts.{reports-count}
@@ -20,8 +21,8 @@ use Rattle.tables.specs.Reading.{Guide}
 use Rattle.guides.specs.Choice.{scopeIn}
 use Rattle.guides.specs.declared.Scope.{Scope}
 use Rattle.text.specs.Text.{part}
-use Rattle.frame.specs.declared.Frame.{Frame}
-use Rattle.frame.proofs.Laws.{trailerIn, FrameIs}
+use Rattle.envelope.specs.declared.Frame.{Frame}
+use Rattle.envelope.proofs.Laws.{trailerIn, FrameIs}
 use Rattle.verdicts.specs.Verdicts.{trailerIf, summaryBy, summaryOf, summaryOut}
 use Rattle.verdicts.specs.declared.Summary.{Summary}
 use Rattle.verdicts.specs.declared.Tally.{Tally}
@@ -82,10 +83,10 @@ told-is d st02 g {table} n k e p q = rw (k, e, q, p, reports-count d table [] (s
 
 -- 3. The whole response.
 -- the transaction set is a part of it
-set-bound : (i : Bytes) → length i ≤ 65536
+set-bound : (i : Bytes) (call : Call) → length i ≤ 65536
     → length (out (delimiters i) (transactionSet (ascii "0001") (groupReport (delimiters i) (groupOf (segments (delimiters i) i))))) < 18446744073709551615
 unfolding response respond
-set-bound i h = let d = delimiters i in omega (arith, simp (out-cons d, length-out-append d) at (response-bound i 0 0 0 h))
+set-bound i call h = let d = delimiters i in omega (arith, simp (out-cons d, length-out-append d) at (response-bound i call h))
 
 module _ {d : Delimiters} {i gs body ge : Bytes} {f : Frame} {ids : List (List ℕ)} {rows : Guide} {scope : Scope} {starts marks : List ℕ} {survey : Survey} {summary : Summary}
     (a : Answerable d i f ids rows scope)
@@ -109,13 +110,13 @@ module _ {d : Delimiters} {i gs body ge : Bytes} {f : Frame} {ids : List (List �
       ∙ rw u (told-is d st02 _ (survey .sets) (rw p (a .scoped)) (rw p (fun-ext (a .table))) (v .received) (v .allowed))
 
   -- SE01 is exact: segments are no more than their bytes, which a usize counts
-  told-counts : {m : ℕ} → m ≡ sat (length setBlocks) → sat (m + 4) ≡ length (told st02 report) + 1
+  told-counts : (call : Call) {m : ℕ} → m ≡ sat (length setBlocks) → sat (m + 4) ≡ length (told st02 report) + 1
   unfolding transactionSet
-  told-counts k =
+  told-counts call k =
       omega (
         arith,
         k,
-        rw (← a .cut) at (set-bound i (a .short)),
+        rw (← a .cut) at (set-bound i call (a .short)),
         transaction-counted d st02 report,
         length-append (told st02 report) (seOut (length (told st02 report) + 1) st02 ∷ []),
         ap length told-made,
@@ -123,22 +124,22 @@ module _ {d : Delimiters} {i gs body ge : Bytes} {f : Frame} {ids : List (List �
       )
 
   -- what comes before the blocks, the blocks, and what comes after them
-  pub response-is : (date time control : ℕ) {m : ℕ} → m ≡ sat (length setBlocks)
-      → out d (opening d i (split (d .element) gs) date time control ++ (setBlocks ++ closing summary (sat (m + 4)) control)) ≡ response i date time control
+  pub response-is : (call : Call) {m : ℕ} → m ≡ sat (length setBlocks)
+      → out d (opening d i (split (d .element) gs) call ++ (setBlocks ++ closing summary (sat (m + 4)) (call .control))) ≡ response i call
   unfolding response respond transactionSet opening closing
-  response-is date time control k =
-      rw (← a .cut, told-counts k, told-made, ap (λ (g : Group). g .header) (group-at (a .frame) p q r)) (ap (out d) (simp append-assoc))
+  response-is call k =
+      rw (← a .cut, told-counts call k, told-made, ap (λ (g : Group). g .header) (group-at (a .frame) p q r)) (ap (out d) (simp append-assoc))
 
   -- so they are as long as it is
-  pub response-measured : (date time control : ℕ) {b : Told} {n : ℕ} → Measures d setBlocks b
+  pub response-measured : (call : Call) {b : Told} {n : ℕ} → Measures d setBlocks b
       → ((ss : List Segment) → Measures d ss b
-      → n ≡ sat (length (out d (opening d i (split (d .element) gs) date time control ++ (ss ++ closing summary (sat (b .segments + 4)) control)))))
-      → n ≡ sat (length (response i date time control))
-  response-measured date time control m k = rw (← response-is date time control (m .number)) (k setBlocks m)
+      → n ≡ sat (length (out d (opening d i (split (d .element) gs) call ++ (ss ++ closing summary (sat (b .segments + 4)) (call .control))))))
+      → n ≡ sat (length (response i call))
+  response-measured call m k = rw (← response-is call (m .number)) (k setBlocks m)
 
   -- and written one after the other they are the response
-  pub response-written : (date time control : ℕ) {m n₁ n₂ n₃ : ℕ} {o o₁ o₂ o₃ : Bytes} → m ≡ sat (length setBlocks)
-      → From 0 (out d (opening d i (split (d .element) gs) date time control)) n₁ o o₁ → From n₁ (out d setBlocks) n₂ o₁ o₂
-      → From n₂ (out d (closing summary (sat (m + 4)) control)) n₃ o₂ o₃ → Wrote (response i date time control) n₃ o o₃
-  response-written date time control k before sets after =
-      rw (← response-is date time control k) (whole (onward d _ _ before (onward d _ _ sets after)))
+  pub response-written : (call : Call) {m n₁ n₂ n₃ : ℕ} {o o₁ o₂ o₃ : Bytes} → m ≡ sat (length setBlocks)
+      → From 0 (out d (opening d i (split (d .element) gs) call)) n₁ o o₁ → From n₁ (out d setBlocks) n₂ o₁ o₂
+      → From n₂ (out d (closing summary (sat (m + 4)) (call .control))) n₃ o₂ o₃ → Wrote (response i call) n₃ o o₃
+  response-written call k before sets after =
+      rw (← response-is call k) (whole (onward d _ _ before (onward d _ _ sets after)))

@@ -8,13 +8,14 @@ use Rattle.rules.specs.Cutting.{Segment, field, delimiters, isa, split, segment
 use Rattle.rules.specs.Sets.{Set}
 use Rattle.rules.specs.Groups.{tableIn}
 use Rattle.rules.specs.Response.{out, isaOut, gsOut, stOut, seOut, geOut, ieaOut}
+use Rattle.rules.specs.declared.Call.{Call}
 use Rattle.rules.specs.declared.Delimiters.{Delimiters}
 use Rattle.tables.specs.Reading.{Guide}
 use Rattle.guides.specs.Choice.{scopeIn, placeOf, tableAt, Stands}
 use Rattle.guides.specs.declared.Scope.{Scope}
 use Rattle.text.specs.Text.{part}
-use Rattle.frame.specs.declared.Frame.{Frame}
-use Rattle.frame.proofs.Laws.{FrameIs}
+use Rattle.envelope.specs.declared.Frame.{Frame}
+use Rattle.envelope.proofs.Laws.{FrameIs}
 use Rattle.sets.proofs.Refused.{Passed}
 use Rattle.verdicts.specs.Verdicts.{summaryOut}
 use Rattle.verdicts.specs.declared.Summary.{Summary}
@@ -32,9 +33,9 @@ abbrev pub Measures : Delimiters → List Segment → Told → Type 0
 Measures d ss r = Tells d ss r [] []
 
 -- ISA, GS, ST and AK1 of the response: what comes before the blocks of the sets
-unfoldable pub opening : Delimiters → Bytes → Segment → ℕ → ℕ → ℕ → List Segment
-opening d i gs date time control =
-    isaOut d (isa i) date time control ∷ gsOut gs date time control ∷ stOut (ascii "0001") ∷ (ascii "AK1" ∷ field gs 1 ∷ field gs 6 ∷ []) ∷ []
+unfoldable pub opening : Delimiters → Bytes → Segment → Call → List Segment
+opening d i gs call =
+    isaOut d (isa i) call ∷ gsOut gs call ∷ stOut (ascii "0001") ∷ (ascii "AK1" ∷ field gs 1 ∷ field gs 6 ∷ []) ∷ []
 
 -- AK9, SE, GE and IEA: what comes after them, by the summary of the group and SE01
 unfoldable pub closing : Summary → ℕ → ℕ → List Segment

@@ -3,11 +3,11 @@ ghost use mathlib.Core.Path.{_≡_};
 ghost use Rattle.rules.specs.Cutting as cutting;
 ghost use Rattle.rules.specs.Refusals.{refusal};
 ghost use Rattle.rules.specs.Answers.{Allowed, called};
-ghost use Rattle.frame.proofs.Laws.{FrameIs};
-use frame::Frame;
+ghost use Rattle.envelope.proofs.Laws.{FrameIs};
+use envelope::Frame;
 use refusals::Checked;
-use response::Caller;
 use rules::Answer;
+use rules::Call;
 use set_block::Reading;
 
 mod response;
@@ -15,38 +15,25 @@ mod set_block;
 mod survey;
 
 // The answer to a sound interchange, by the tables that its GS gives it.
-fn answer_group(out: &mut [u8], i: &[u8], f: Frame, caller: Caller) -> Answer
-    requires { ⌜ (refusal (now i) (caller .date) (caller .time) (caller .control) ≡ 0) × FrameIs (cutting.delimiters (now i)) (now i) f ⌝ }
-    ensures { λ r. ⌜ Allowed (now (i .entry)) (now (out .entry)) (caller .date) (caller .time) (caller .control) r (now (out .exit)) ⌝ }
+fn answer_group(out: &mut [u8], i: &[u8], f: Frame, call: Call) -> Answer
+    requires { ⌜ (refusal (now i) call ≡ 0) × FrameIs (cutting.delimiters (now i)) (now i) f ⌝ }
+    ensures { λ r. ⌜ Allowed (now (i .entry)) (now (out .entry)) call r (now (out .exit)) ⌝ }
 {
-    let delimiters = envelope::delimiters(i);
+    let delimiters = isa::delimiters(i);
     let gs = text::part(i, f.gs, f.gs_end);
     let scope = guides::scope_of(gs, delimiters);
     let reading = Reading { delimiters, scope };
     let directory = guides::directory();
     let rows = guides::rows();
-    response::respond(out, i, f, reading, &directory, &rows, caller)
+    response::respond(out, i, f, reading, &directory, &rows, call)
 }
 
 // The answer to one interchange.
-pub fn acknowledge(
-    interchange: &[u8],
-    response: &mut [u8],
-    date: u32,
-    time: u32,
-    control: u32,
-) -> Answer
-    ensures { λ r. ⌜ Allowed (now (interchange .entry)) (now (response .entry)) date time control r (now (response .exit)) ⌝ }
+pub fn acknowledge(interchange: &[u8], response: &mut [u8], call: Call) -> Answer
+    ensures { λ r. ⌜ Allowed (now (interchange .entry)) (now (response .entry)) call r (now (response .exit)) ⌝ }
 {
-    match refusals::check(interchange, date, time, control) {
-        Checked::Sound(f) => {
-            let caller = Caller {
-                date,
-                time,
-                control,
-            };
-            answer_group(response, interchange, f, caller)
-        }
+    match refusals::check(interchange, call) {
+        Checked::Sound(f) => answer_group(response, interchange, f, call),
         Checked::Refused(n) => Answer::Refused(n),
     }
 }
@@ -61,9 +48,14 @@ pub extern "C" fn x12_acknowledge(
     control: u32,
     length: &mut usize,
 ) -> u32
-    ensures { λ r. ⌜ record { number = r; size = now (length .exit); buffer = now (response .exit) } ≡ called (now (interchange .entry)) (now (response .entry)) date time control ⌝ }
+    ensures { λ r. ⌜ record { number = r; size = now (length .exit); buffer = now (response .exit) } ≡ called (now (interchange .entry)) (now (response .entry)) (record { date = date; time = time; control = control }) ⌝ }
 {
-    match acknowledge(interchange, response, date, time, control) {
+    let call = Call {
+        date,
+        time,
+        control,
+    };
+    match acknowledge(interchange, response, call) {
         Answer::Written(n) => {
             *length = n;
             0

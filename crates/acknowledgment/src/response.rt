@@ -18,21 +18,15 @@ use crate::set_block::Reading;
 use crate::survey;
 use crate::survey::MOST_SETS;
 use crate::survey::Survey;
-use frame::Frame;
+use envelope::Frame;
 use notes::Told;
 use rules::Answer;
+use rules::Call;
 use rules::Delimiters;
 use verdicts::Summary;
 
 // ST02 of the one transaction set that is sent.
 const ST02: [u8; 4] = *b"0001";
-
-// The caller's numbers: the date, the time and the control number of the response.
-pub struct Caller {
-    pub date: u32,
-    pub time: u32,
-    pub control: u32,
-}
 
 // The blocks of the sets of a group, as surveyed.
 fn put_sets(
@@ -70,12 +64,11 @@ fn put_sets(
 }
 
 // ISA, GS, ST and AK1: what comes before the blocks of the sets.
-fn put_opening(out: &mut [u8], i: &[u8], d: Delimiters, gs: &[u8], caller: Caller) -> usize
-    ensures { λ r. ⌜ From 0 (law.out d (opening d (now (i .entry)) (cutting.split (d .element) (now (gs .entry))) (caller .date) (caller .time) (caller .control))) r (now (out .entry)) (now (out .exit)) ⌝ }
+fn put_opening(out: &mut [u8], i: &[u8], d: Delimiters, gs: &[u8], call: Call) -> usize
+    ensures { λ r. ⌜ From 0 (law.out d (opening d (now (i .entry)) (cutting.split (d .element) (now (gs .entry))) call)) r (now (out .entry)) (now (out .exit)) ⌝ }
 {
-    let control = caller.control;
-    let n = response_envelope::add_isa(out, 0, d, i, caller.date, caller.time, control);
-    let n = response_envelope::add_gs(out, n, d, gs, caller.date, caller.time, control);
+    let n = response_envelope::add_isa(out, 0, d, i, call);
+    let n = response_envelope::add_gs(out, n, d, gs, call);
     let n = blocks::add_st(out, n, d, &ST02);
     blocks::add_ak1(out, n, d, gs)
 }
@@ -102,14 +95,14 @@ fn response_length(
     i: &[u8],
     d: Delimiters,
     gs: &[u8],
-    caller: Caller,
+    call: Call,
     blocks: Told,
     summary: Summary,
 ) -> usize
-    ensures { λ r. ⌜ ((ss : List Segment) → Measures d ss blocks → r ≡ sat (length (law.out d (opening d (now (i .entry)) (cutting.split (d .element) (now (gs .entry))) (caller .date) (caller .time) (caller .control) ++ (ss ++ closing summary (sat (blocks .segments + 4)) (caller .control)))))) ⌝ }
+    ensures { λ r. ⌜ ((ss : List Segment) → Measures d ss blocks → r ≡ sat (length (law.out d (opening d (now (i .entry)) (cutting.split (d .element) (now (gs .entry))) call ++ (ss ++ closing summary (sat (blocks .segments + 4)) (call .control)))))) ⌝ }
 {
     let mut nothing: [u8; 1] = [0];
-    let n = put_opening(&mut nothing[0..0], i, d, gs, caller);
+    let n = put_opening(&mut nothing[0..0], i, d, gs, call);
     let n = writing::joined(n, blocks.length);
     add_closing(
         &mut nothing[0..0],
@@ -117,7 +110,7 @@ fn response_length(
         d,
         summary,
         blocks.segments,
-        caller.control,
+        call.control,
     )
 }
 
@@ -129,10 +122,10 @@ pub fn respond(
     reading: Reading,
     directory: &[[u8; 3]],
     rows: &[[u16; 6]],
-    caller: Caller,
+    call: Call,
 ) -> Answer
     requires { ⌜ Answerable (reading .delimiters) (now i) f (now directory) (now rows) (reading .scope) ⌝ }
-    ensures { λ r. ⌜ (r ≡ fitting (law.response (now (i .entry)) (caller .date) (caller .time) (caller .control)) (length (now (out .entry)))) × (now (out .exit) ≡ buffer r (law.response (now (i .entry)) (caller .date) (caller .time) (caller .control)) (now (out .entry))) ⌝ }
+    ensures { λ r. ⌜ (r ≡ fitting (law.response (now (i .entry)) call) (length (now (out .entry)))) × (now (out .exit) ≡ buffer r (law.response (now (i .entry)) call) (now (out .entry))) ⌝ }
 {
     let d = reading.delimiters;
     let gs = text::part(i, f.gs, f.gs_end);
@@ -145,11 +138,11 @@ pub fn respond(
     let sets = survey.sets;
     let summary = verdicts::summary_of(gs, ge, f.closed, d, scope, sets);
     let blocks = survey.blocks;
-    let needed = response_length(i, d, gs, caller, blocks, summary);
+    let needed = response_length(i, d, gs, call, blocks, summary);
     if out.len() < needed {
         return Answer::TooLong(needed);
     }
-    let n = put_opening(out, i, d, gs, caller);
+    let n = put_opening(out, i, d, gs, call);
     let rest = writing::clipped(n, out.len());
     let told = put_sets(
         &mut out[rest..],
@@ -162,5 +155,5 @@ pub fn respond(
         survey,
     );
     let n = writing::joined(n, told.length);
-    Answer::Written(add_closing(out, n, d, summary, told.segments, caller.control))
+    Answer::Written(add_closing(out, n, d, summary, told.segments, call.control))
 }

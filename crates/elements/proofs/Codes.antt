@@ -11,7 +11,8 @@ use Rattle.rules.specs.Base.{Bytes, null, all, _⇒_, first, if_then_else_}
 use Rattle.rules.specs.Cutting.{valid}
 use Rattle.rules.specs.Elements.{isN0, isDT, isTM, size, elementCode}
 use Rattle.rules.specs.Numbers.{isDate, isTime}
-use Rattle.rules.specs.Tables.{Row, column, kindOf}
+use Rattle.rules.specs.Tables.{Row}
+use Rattle.tables.specs.Rows.{column, kindOf}
 use Rattle.rules.specs.declared.Delimiters.{Delimiters}
 use Rattle.rules.specs.declared.Kind.{Kind}
 use Rattle.rules.specs.declared.Kind.the-variants.{DT, TM}

@@ -12,7 +12,8 @@ use lib.Seq.{drop-cons, take-all}
 use Rattle.rules.specs.Base.{any, if_then_else_}
 use Rattle.rules.specs.Cutting.{Segment}
 use Rattle.rules.specs.Elements.{present, isPlace, afterPresent, lacking, excluded, lacks, shutsOut}
-use Rattle.rules.specs.Tables.{Syntax, isRow, relationOf, notesIn}
+use Rattle.rules.specs.Tables.{Syntax}
+use Rattle.tables.specs.Rows.{isRow, relationOf, syntaxIn}
 use Rattle.rules.specs.declared.Relation.{Relation}
 use Rattle.rules.specs.declared.Relation.the-variants.{P, R, E, C, L}
 use Rattle.rules.proofs.Logic.{or-left, or-right}
@@ -186,19 +187,19 @@ relation-e n = go (eqb n 1) refl
 -- 4. The notes of an entry at a cursor: the one at row k passes as q says, and the rest decides.
 module _ (p : Syntax → Bool) (rows : Guide) (k : ℕ) where
   pub notes-step : (q : Bool) → isRow 1 (getD rows k []) ≡ false → q ≡ (isRow 4 (getD rows k []) && p (noteAt rows k))
-      → any p (notesIn (drop k rows)) ≡ q || any p (notesIn (drop (k + 1) rows))
+      → any p (syntaxIn (drop k rows)) ≡ q || any p (syntaxIn (drop (k + 1) rows))
   unfolding any
   notes-step q e f = rw f (go (isRow 4 (getD rows k [])) refl)
     where
       go : (b : Bool) → isRow 4 (getD rows k []) ≡ b
-          → any p (notesIn (drop k rows)) ≡ (b && p (noteAt rows k)) || any p (notesIn (drop (k + 1) rows))
+          → any p (syntaxIn (drop k rows)) ≡ (b && p (noteAt rows k)) || any p (syntaxIn (drop (k + 1) rows))
       go true g = rw (notes-here rows k g)
       go false g = rw (notes-skip rows k e g)
 
-  pub notes-over : isRow 1 (getD rows k []) ≡ true → any p (notesIn (drop k rows)) ≡ false
+  pub notes-over : isRow 1 (getD rows k []) ≡ true → any p (syntaxIn (drop k rows)) ≡ false
   unfolding any
   notes-over e = rw (notes-stop rows k e)
 
-  pub notes-past : length rows ≤ k → any p (notesIn (drop k rows)) ≡ false
+  pub notes-past : length rows ≤ k → any p (syntaxIn (drop k rows)) ≡ false
   unfolding any
   notes-past h = rw (notes-end rows k h)

@@ -13,7 +13,8 @@ use Rattle.rules.specs.Base.{Bytes, null, all, any, between, _⇒_, first, ever
 use Rattle.rules.specs.Cutting.{Segment, split, field, valid, marks}
 use Rattle.rules.specs.Elements.{isDT, isTM, spelled, size, elementCode, present, lacks, shutsOut, placeCodes, found, findingsFrom}
 use Rattle.rules.specs.Numbers.{isDate, isTime}
-use Rattle.rules.specs.Tables.{Row, Syntax, isRow, rowsIn}
+use Rattle.rules.specs.Tables.{Row, Syntax}
+use Rattle.tables.specs.Rows.{isRow, rowsIn}
 use Rattle.rules.specs.declared.Delimiters.{Delimiters}
 use Rattle.rules.specs.declared.Finding.{Finding}
 use Rattle.rules.proofs.Logic.{and-right, or-left}

@@ -5,7 +5,8 @@ use mathlib.Core.List.{List}
 use lib.ListN.{drop}
 use Rattle.rules.specs.Cutting.{Segment}
 use Rattle.rules.specs.Elements.{lacking, excluded}
-use Rattle.rules.specs.Tables.{Syntax, column, filled, relationOf}
+use Rattle.rules.specs.Tables.{Syntax}
+use Rattle.tables.specs.Rows.{column, filled, relationOf}
 use Rattle.rules.specs.declared.Relation.{Relation}
 use Rattle.rules.specs.declared.Relation.the-variants.{P, R, E, C, L}
 

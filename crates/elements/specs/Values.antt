@@ -7,7 +7,8 @@ use lib.ListN.{getD}
 use Rattle.rules.specs.Base.{Bytes, _⇒_, first, null, all, between, isDigit, member, if_then_else_}
 use Rattle.rules.specs.Elements.{isN0, isDT, isTM, unsigned, size}
 use Rattle.rules.specs.Numbers.{isDate, isTime}
-use Rattle.rules.specs.Tables.{Row, column}
+use Rattle.rules.specs.Tables.{Row}
+use Rattle.tables.specs.Rows.{column}
 use Rattle.rules.specs.declared.Kind.{Kind}
 use Rattle.tables.specs.Reading.{Guide, rowAt, codesAt}
 

@@ -8,7 +8,7 @@ ghost use Rattle.rules.specs.Base.{_⇒_, first, null, any, if_then_else_};
 ghost use Rattle.rules.specs.Cutting.{split};
 ghost use Rattle.rules.specs.Elements as rules;
 ghost use Rattle.rules.specs.Numbers as numbers;
-ghost use Rattle.rules.specs.Tables as tables;
+ghost use Rattle.tables.specs.Rows as rows;
 ghost use Rattle.tables.specs.Reading.{rowAt, entryAt};
 ghost use Rattle.elements.specs.Values.{unlisted, spelledAs, ruleCode, valueCode, takesLength, takes};
 ghost use Rattle.elements.specs.Notes.{noteIs, breaks, breaksBy, concerns};
@@ -79,7 +79,7 @@ fn wide(n: u16) -> usize
 
 // A length that row k asks for.
 fn limit(guide: &[[u16; 6]], k: usize, column: usize) -> usize
-    ensures { λ r. ⌜ r ≡ tables.column (getD (now (guide .entry)) k []) column ⌝ }
+    ensures { λ r. ⌜ r ≡ rows.column (getD (now (guide .entry)) k []) column ⌝ }
 {
     wide(tables::number(guide, k, column))
 }
@@ -322,7 +322,7 @@ fn is_broken(relation: Relation, s: &[u8], e: u8, places: &[u16], n: usize) -> b
 
 // The numbers before the first 0.
 fn filled(numbers: &[u16]) -> &[u16]
-    ensures { λ r. ⌜ now r ≡ tables.filled (now (numbers .entry)) ⌝ }
+    ensures { λ r. ⌜ now r ≡ rows.filled (now (numbers .entry)) ⌝ }
 {
     let mut i = 0;
     while i < numbers.len() {
@@ -336,7 +336,7 @@ fn filled(numbers: &[u16]) -> &[u16]
 
 // The row is a note that is broken at place n.
 fn breaks_note(s: &[u8], e: u8, row: [u16; 6], n: usize) -> bool
-    ensures { λ r. ⌜ r ≡ (tables.isRow 4 row && breaks (split e (now (s .entry))) n (noteIs row)) ⌝ }
+    ensures { λ r. ⌜ r ≡ (rows.isRow 4 row && breaks (split e (now (s .entry))) n (noteIs row)) ⌝ }
 {
     if row[0] != tables::NOTE {
         return false;
@@ -346,7 +346,7 @@ fn breaks_note(s: &[u8], e: u8, row: [u16; 6], n: usize) -> bool
 
 // A note from row `from` on is broken at place n.
 fn breaks_notes(s: &[u8], e: u8, guide: &[[u16; 6]], from: usize, n: usize) -> bool
-    ensures { λ r. ⌜ r ≡ any (breaks (split e (now (s .entry))) n) (tables.notesIn (drop from (now (guide .entry)))) ⌝ }
+    ensures { λ r. ⌜ r ≡ any (breaks (split e (now (s .entry))) n) (rows.syntaxIn (drop from (now (guide .entry)))) ⌝ }
 {
     let mut k = from;
     while k < guide.len() {
@@ -363,7 +363,7 @@ fn breaks_notes(s: &[u8], e: u8, guide: &[[u16; 6]], from: usize, n: usize) -> b
 
 // The row is a note that can be broken where an element is present, or where it is absent.
 fn concerns(guide: &[[u16; 6]], k: usize, present: bool) -> bool
-    ensures { λ r. ⌜ r ≡ (tables.isRow 4 (getD (now (guide .entry)) k []) && concerns present (noteIs (getD (now (guide .entry)) k []))) ⌝ }
+    ensures { λ r. ⌜ r ≡ (rows.isRow 4 (getD (now (guide .entry)) k []) && concerns present (noteIs (getD (now (guide .entry)) k []))) ⌝ }
 {
     if !tables::is_note(guide, k) {
         return false;
@@ -376,7 +376,7 @@ fn concerns(guide: &[[u16; 6]], k: usize, present: bool) -> bool
 
 // Such a note stands from row `from` on.
 fn concerns_any(guide: &[[u16; 6]], from: usize, present: bool) -> bool
-    ensures { λ r. ⌜ r ≡ any (concerns present) (tables.notesIn (drop from (now (guide .entry)))) ⌝ }
+    ensures { λ r. ⌜ r ≡ any (concerns present) (rows.syntaxIn (drop from (now (guide .entry)))) ⌝ }
 {
     let mut k = from;
     while k < guide.len() {
@@ -394,7 +394,7 @@ fn concerns_any(guide: &[[u16; 6]], from: usize, present: bool) -> bool
 // A note from row `from` on is broken at place n, which is present or absent.
 fn breaks_any(s: &[u8], e: u8, guide: &[[u16; 6]], from: usize, n: usize, present: bool) -> bool
     requires { ⌜ present ≡ rules.present (split e (now s)) n ⌝ }
-    ensures { λ r. ⌜ r ≡ any (breaks (split e (now (s .entry))) n) (tables.notesIn (drop from (now (guide .entry)))) ⌝ }
+    ensures { λ r. ⌜ r ≡ any (breaks (split e (now (s .entry))) n) (rows.syntaxIn (drop from (now (guide .entry)))) ⌝ }
 {
     concerns_any(guide, from, present) && breaks_notes(s, e, guide, from, n)
 }
@@ -445,7 +445,7 @@ pub fn next_code(
 
 // The first note or segment from row `from` on: no note stands before it.
 fn first_note(guide: &[[u16; 6]], from: usize) -> usize
-    ensures { λ r. ⌜ tables.notesIn (drop r (now (guide .entry))) ≡ tables.notesIn (drop from (now (guide .entry))) ⌝ }
+    ensures { λ r. ⌜ rows.syntaxIn (drop r (now (guide .entry))) ≡ rows.syntaxIn (drop from (now (guide .entry))) ⌝ }
 {
     let mut k = from;
     while k < guide.len() {

@@ -1,2 +1,3 @@
 pub mod Places
-pub mod Marks
+pub mod Closing
+pub mod Laws

@@ -1,260 +1,133 @@
-// The first refusals: the caller's numbers, the bytes of ISA, and the last byte of the interchange.
+// Where GS, the body of the group, GE and IEA lie in an interchange; refusal 7 is due where they do not.
 ghost use mathlib.Core.Path.{_≡_};
-ghost use mathlib.Core.Bool.{_&&_};
-ghost use mathlib.Core.List.{[], _∷_};
-ghost use Prim.Native.Nat.{_/_, _%_, _<_};
-ghost use lib.Dec.{leb};
-ghost use lib.ListN.{getD};
-ghost use Rattle.rules.specs.Base.{ascii, between, all, first, last, member};
-ghost use Rattle.rules.specs.Cutting as cutting;
-ghost use Rattle.rules.specs.Cutting.{field, isa, marks, separators, valid};
-ghost use Rattle.rules.specs.Numbers.{isDay};
-ghost use Rattle.rules.specs.Refusals.{callRules, headRules, endRules, framed, plain, distinct, goodMarks, goodISA};
+ghost use Prim.Native.Nat.{_+_};
+ghost use lib.ListN.{drop};
+ghost use Rattle.rules.specs.Cutting.{field, isNamed, pieces, split};
+ghost use Rattle.text.specs.Text.{part};
+ghost use Rattle.envelope.specs.Places.{endOf, isEnvelopeName, inside, trailerAt, frameOf};
 use rules::Delimiters;
-use rules::Interchange;
-use text::all_valid;
-use text::is_day;
-use text::is_digits;
-use text::same_bytes;
+use rules::GE;
+use rules::GS;
+use rules::IEA;
+use rules::ISA;
 
-// The fields of ISA that are read by place: the id, and ISA01 to ISA15.
-const FIELDS: usize = 16;
-
-// Where the separator after each of them stands.
-const SEPARATORS: [usize; FIELDS] = [
-    3,
-    6,
-    17,
-    20,
-    31,
-    34,
-    50,
-    53,
-    69,
-    76,
-    81,
-    83,
-    89,
-    99,
-    101,
-    103,
-];
-
-// Where the delimiters stand.
-const ELEMENT: usize = 3;
-
-const COMPONENT: usize = 104;
-
-const TERMINATOR: usize = 105;
-
-// Refusal 1: the caller's numbers.
-pub fn call_refusal(date: u32, time: u32, control: u32) -> u8
-    ensures { λ r. ⌜ r ≡ first (callRules date time control) ⌝ }
-{
-    if !is_call_date(date) {
-        return 1;
-    }
-    if !is_call_time(time) {
-        return 1;
-    }
-    if !is_call_control(control) {
-        return 1;
-    }
-    0
+// The places of an interchange's parts, as offsets: each starts at one and ends before the other.
+// The body holds the terminator of its last segment; where GE is missing, its part is empty.
+pub struct Frame {
+    pub gs: usize,
+    pub gs_end: usize,
+    pub body: usize,
+    pub body_end: usize,
+    pub ge: usize,
+    pub ge_end: usize,
+    pub closed: bool,
+    pub iea: usize,
+    pub iea_end: usize,
 }
 
-fn is_call_date(date: u32) -> bool
-    ensures { λ r. ⌜ r ≡ (leb date 99991231 && isDay date) ⌝ }
-{
-    date <= 99991231 && is_day(date)
+// An interchange has its frame, or refusal 7 is due.
+pub enum Framed {
+    Whole(Frame),
+    Broken,
 }
 
-fn is_call_time(time: u32) -> bool
-    ensures { λ r. ⌜ r ≡ (leb (time / 100) 23 && leb (time % 100) 59) ⌝ }
-{
-    time / 100 <= 23 && time % 100 <= 59
+// What stands where the body ends: GE up to `end`, or nothing. `next` is where IEA is due.
+struct Trailer {
+    end: usize,
+    closed: bool,
+    next: usize,
 }
 
-fn is_call_control(control: u32) -> bool
-    ensures { λ r. ⌜ r ≡ between 1 999999999 control ⌝ }
+// The segment is ISA, GS, GE or IEA.
+fn is_of_envelope(s: &[u8], e: u8) -> bool
+    ensures { λ r. ⌜ r ≡ isEnvelopeName (field (split e (now (s .entry))) 0) ⌝ }
 {
-    1 <= control && control <= 999999999
-}
-
-// Refusals 2 to 5: the length of the interchange, and its ISA.
-pub fn head_refusal(i: &[u8]) -> u8
-    ensures { λ r. ⌜ r ≡ first (headRules (now (i .entry))) ⌝ }
-{
-    if i.len() < Interchange::SHORTEST {
-        return 2;
-    }
-    if Interchange::LONGEST < i.len() {
-        return 2;
-    }
-    if !is_framed(i) {
-        return 3;
-    }
-    let d = delimiters(i);
-    if !are_good_marks(d) {
-        return 4;
-    }
-    if !is_good_isa(i, d) {
-        return 5;
-    }
-    0
-}
-
-// Refusal 6: the last byte ends a segment.
-pub fn end_refusal(i: &[u8]) -> u8
-    ensures { λ r. ⌜ r ≡ first (endRules (now (i .entry))) ⌝ }
-{
-    let d = delimiters(i);
-    if last_byte(i) != d.terminator {
-        return 6;
-    }
-    0
-}
-
-// The delimiters that the interchange brings, each 0 where it is too short.
-pub fn delimiters(i: &[u8]) -> Delimiters
-    ensures { λ r. ⌜ r ≡ cutting.delimiters (now (i .entry)) ⌝ }
-{
-    Delimiters::new(
-        byte_at(i, ELEMENT),
-        byte_at(i, COMPONENT),
-        byte_at(i, TERMINATOR),
-    )
-}
-
-// Field n of ISA by its fixed places, up to ISA15; of a short interchange what there is of it.
-pub fn isa_field(i: &[u8], n: usize) -> &[u8]
-    ensures { λ r. ⌜ now r ≡ field (isa (now (i .entry))) n ⌝ }
-{
-    if FIELDS <= n {
-        return &i[0..0];
-    }
-    let end = separator(n);
-    if n == 0 {
-        return text::part(i, 0, end);
-    }
-    text::part(i, separator(n - 1) + 1, end)
-}
-
-// ISA, and a separator at each of its places.
-fn is_framed(i: &[u8]) -> bool
-    ensures { λ r. ⌜ r ≡ framed (now (i .entry)) ⌝ }
-{
-    if !same_bytes(text::part(i, 0, 3), &rules::ISA) {
-        return false;
-    }
-    let mut k = 0;
-    while k < FIELDS {
-        if byte_at(i, separator(k)) != byte_at(i, ELEMENT) {
-            return false;
-        }
-        k += 1;
-    }
-    true
-}
-
-fn are_good_marks(d: Delimiters) -> bool
-    ensures { λ r. ⌜ r ≡ goodMarks (marks d) ⌝ }
-{
-    if !are_distinct(d) {
-        return false;
-    }
-    if !is_plain(d.element) {
-        return false;
-    }
-    if !is_plain(d.component) {
-        return false;
-    }
-    is_plain(d.terminator)
-}
-
-fn are_distinct(d: Delimiters) -> bool
-    ensures { λ r. ⌜ r ≡ distinct (marks d) ⌝ }
-{
-    if d.element == d.component {
-        return false;
-    }
-    if d.element == d.terminator {
-        return false;
-    }
-    d.component != d.terminator
-}
-
-// No letter, digit or space.
-fn is_plain(b: u8) -> bool
-    ensures { λ r. ⌜ r ≡ plain b ⌝ }
-{
-    match b {
-        b'A'..=b'Z' | b'a'..=b'z' | b'0'..=b'9' | b' ' => false,
-        _ => true,
-    }
-}
-
-fn is_good_isa(i: &[u8], d: Delimiters) -> bool
-    ensures { λ r. ⌜ r ≡ goodISA d (isa (now (i .entry))) ⌝ }
-{
-    if !are_valid_fields(i, d) {
-        return false;
-    }
-    if !is_digits(isa_field(i, 13), 9, 9) {
-        return false;
-    }
-    is_usage(isa_field(i, 15))
-}
-
-fn are_valid_fields(i: &[u8], d: Delimiters) -> bool
-    ensures { λ r. ⌜ r ≡ all (all (valid d)) (isa (now (i .entry))) ⌝ }
-{
-    let mut n = 0;
-    while n < FIELDS {
-        if !all_valid(isa_field(i, n), d) {
-            return false;
-        }
-        n += 1;
-    }
-    true
-}
-
-// ISA15: production, test or information.
-fn is_usage(s: &[u8]) -> bool
-    ensures { λ r. ⌜ r ≡ member (now (s .entry)) (ascii "P" ∷ ascii "T" ∷ ascii "I" ∷ []) ⌝ }
-{
-    if same_bytes(s, b"P") {
+    if segments::is_named(s, e, &ISA) {
         return true;
     }
-    if same_bytes(s, b"T") {
+    if segments::is_named(s, e, &GS) {
         return true;
     }
-    same_bytes(s, b"I")
-}
-
-fn separator(k: usize) -> usize
-    requires { ⌜ k < 16 ⌝ }
-    ensures { λ r. ⌜ r ≡ getD separators k 0 ⌝ }
-{
-    SEPARATORS[k]
-}
-
-// The byte at a place, 0 past the end.
-fn byte_at(i: &[u8], at: usize) -> u8
-    ensures { λ r. ⌜ r ≡ getD (now (i .entry)) at 0 ⌝ }
-{
-    if at < i.len() {
-        return i[at];
+    if segments::is_named(s, e, &GE) {
+        return true;
     }
-    0
+    segments::is_named(s, e, &IEA)
 }
 
-// The last byte, 0 where there is none.
-fn last_byte(i: &[u8]) -> u8
-    ensures { λ r. ⌜ r ≡ last 0 (now (i .entry)) ⌝ }
+// Where the first segment of the envelope from `from` on starts; past the end where there is none.
+fn envelope_from(i: &[u8], from: usize, d: Delimiters) -> usize
+    ensures { λ r. ⌜ r ≡ from + inside (d .element) (pieces (d .terminator) (drop from (now (i .entry)))) ⌝ }
 {
-    if i.len() == 0 {
-        return 0;
+    let mut at = from;
+    while at < i.len() {
+        let end = text::find(i, at, d.terminator);
+        if is_of_envelope(&i[at..end], d.element) {
+            return at;
+        }
+        at = end + 1;
     }
-    i[i.len() - 1]
+    at
+}
+
+// The segment from `at` to `end` is there, and has this name.
+fn is_named_at(i: &[u8], at: usize, end: usize, d: Delimiters, name: &[u8]) -> bool
+    requires { ⌜ end ≡ endOf d (now i) at ⌝ }
+    ensures { λ r. ⌜ r ≡ isNamed (now (name .entry)) (split (d .element) (part (now (i .entry)) at end)) ⌝ }
+{
+    if i.len() < end {
+        return segments::is_named(&i[0..0], d.element, name);
+    }
+    segments::is_named(&i[at..end], d.element, name)
+}
+
+// GE, where it stands at `at`.
+fn trailer_at(i: &[u8], at: usize, d: Delimiters) -> Trailer
+    ensures { λ r. ⌜ r ≡ trailerAt d (now (i .entry)) at ⌝ }
+{
+    let end = text::find(i, at, d.terminator);
+    if is_named_at(i, at, end, d, &GE) {
+        return Trailer {
+            end,
+            closed: true,
+            next: end + 1,
+        };
+    }
+    Trailer {
+        end: at,
+        closed: false,
+        next: at,
+    }
+}
+
+// The places of the parts: GS second, IEA last, GE or nothing before it, and no other segment of the envelope after GS.
+pub fn frame_of(i: &[u8], d: Delimiters) -> Framed
+    ensures { λ r. ⌜ r ≡ frameOf d (now (i .entry)) ⌝ }
+{
+    let gs = text::find(i, 0, d.terminator) + 1;
+    let gs_end = text::find(i, gs, d.terminator);
+    if !is_named_at(i, gs, gs_end, d, &GS) {
+        return Framed::Broken;
+    }
+    let body = gs_end + 1;
+    let ge = envelope_from(i, body, d);
+    let trailer = trailer_at(i, ge, d);
+    let iea = trailer.next;
+    let iea_end = text::find(i, iea, d.terminator);
+    if !is_named_at(i, iea, iea_end, d, &IEA) {
+        return Framed::Broken;
+    }
+    if iea_end + 1 < i.len() {
+        return Framed::Broken;
+    }
+    Framed::Whole(Frame {
+        gs,
+        gs_end,
+        body,
+        body_end: ge,
+        ge,
+        ge_end: trailer.end,
+        closed: trailer.closed,
+        iea,
+        iea_end,
+    })
 }

@@ -16,6 +16,7 @@ use Rattle.rules.specs.Refusals.{goodCall, callRules, headRules, refusalRules, 
 use Rattle.rules.specs.Response.{response}
 use Rattle.rules.specs.Program.{Input, behindByte, parted, isCall, refusedText, printedAs, printedCall, printedFor, printed}
 use Rattle.rules.specs.declared.Answer.the-variants.{Refused}
+use Rattle.rules.specs.declared.Call.{Call}
 use Rattle.exchange.specs.Deciding.{deciding}
 use Rattle.first_line.proofs.Laws.{call-line}
 
@@ -26,20 +27,20 @@ unfolding first
 first-two true rs = refl
 first-two false rs = refl
 
-module _ (room date time control : ℕ) where
+module _ (room : ℕ) (call : Call) where
   abbrev told : Bytes → Bytes
-  told i = printedAs (answer i room date time control) (response i date time control)
+  told i = printedAs (answer i room call) (response i call)
 
-  refusal-long : (i : Bytes) → 65536 < length i → refusal i date time control ≡ if goodCall date time control then 2 else 1
+  refusal-long : (i : Bytes) → 65536 < length i → refusal i call ≡ if goodCall call then 2 else 1
   unfolding refusal refusalRules callRules headRules
-  refusal-long i h = rw (le-leb 106 (length i) (omega arith), lt-leb (length i) 65536 h) (first-two (goodCall date time control) _)
+  refusal-long i h = rw (le-leb 106 (length i) (omega arith), lt-leb (length i) 65536 h) (first-two (goodCall call) _)
 
-  too-long : (i : Bytes) → 65536 < length i → told i ≡ refusedText (if goodCall date time control then 2 else 1)
+  too-long : (i : Bytes) → 65536 < length i → told i ≡ refusedText (if goodCall call then 2 else 1)
   unfolding answer
-  too-long i h = rw (refusal-long i h) (go (goodCall date time control))
+  too-long i h = rw (refusal-long i h) (go (goodCall call))
     where
       go : (good : Bool)
-          → printedAs (let n = if good then 2 else 1 in if eqb n 0 then fitting (response i date time control) room else Refused n) (response i date time control)
+          → printedAs (let n = if good then 2 else 1 in if eqb n 0 then fitting (response i call) room else Refused n) (response i call)
           ≡ refusedText (if good then 2 else 1)
       go true = refl
       go false = refl
@@ -94,5 +95,5 @@ enough input room =
 
     whole : (i : Input) (m : ℕ) (q : Bool) → isCall (i .line) ≡ q → deciding ≡ length (i .line) + m + 1
         → printedCall (record { line = i .line; interchange = take m (i .interchange) }) room ≡ printedCall i room
-    whole i m true e h = rw e (cut room _ _ _ m (i .interchange) (omega (arith, call-line (i .line) e .short)))
+    whole i m true e h = rw e (cut room _ m (i .interchange) (omega (arith, call-line (i .line) e .short)))
     whole i m false e h = rw e

@@ -5,14 +5,15 @@ ghost use Rattle.rules.specs.Answers.{answer};
 ghost use Rattle.rules.specs.Response.{response};
 ghost use Rattle.rules.specs.Program.{printedAs, printed};
 ghost use Rattle.writing.specs.Over.{over, Wrote};
-use first_line::Call;
+use first_line::FirstLine;
 use rules::Answer;
+use rules::Call;
 
 // The answer to an interchange as it is printed: the response, or `refused` and the number.
-fn print_answer(output: &mut [u8], interchange: &[u8], date: u32, time: u32, control: u32) -> usize
-    ensures { λ r. ⌜ Wrote (printedAs (answer (now (interchange .entry)) (length (now (output .entry))) date time control) (response (now (interchange .entry)) date time control)) r (now (output .entry)) (now (output .exit)) ⌝ }
+fn print_answer(output: &mut [u8], interchange: &[u8], call: Call) -> usize
+    ensures { λ r. ⌜ Wrote (printedAs (answer (now (interchange .entry)) (length (now (output .entry))) call) (response (now (interchange .entry)) call)) r (now (output .entry)) (now (output .exit)) ⌝ }
 {
-    match acknowledgment::acknowledge(interchange, output, date, time, control) {
+    match acknowledgment::acknowledge(interchange, output, call) {
         Answer::Written(n) => n,
         Answer::Refused(number) => first_line::put_refused(output, number),
         Answer::TooLong(_) => first_line::put_refused(output, 14),
@@ -24,13 +25,7 @@ pub fn exchange(input: &[u8], output: &mut [u8]) -> usize
     ensures { λ r. ⌜ (r ≡ length (printed (now (input .entry)) (length (now (output .entry))))) × (now (output .exit) ≡ over (printed (now (input .entry)) (length (now (output .entry)))) (now (output .entry))) ⌝ }
 {
     match first_line::call_of(input) {
-        Call::Numbers(date, time, control, at) => print_answer(
-            output,
-            &input[at..],
-            date,
-            time,
-            control,
-        ),
-        Call::Bad => first_line::put_refused(output, 1),
+        FirstLine::Numbers(call, at) => print_answer(output, &input[at..], call),
+        FirstLine::Bad => first_line::put_refused(output, 1),
     }
 }

@@ -11,7 +11,8 @@ use lib.ListN.{length, take, drop, getD, length-drop, length-map}
 use lib.Seq.{slice, slice-empty, take-nil, drop-drop, getD-drop}
 use Rattle.rules.specs.Base.{Bytes, ascii, null, all, same, member, keep, every, _⇒_, if_then_else_}
 use Rattle.rules.specs.Cutting.{Segment, field, cutAt, pieces, segments}
-use Rattle.rules.specs.Tables.{Syntax, Entry, Row, column, isRow, filled, rowIs, codesIn, rowsIn, entryIs, entriesIn, idsIn, tableOf}
+use Rattle.rules.specs.Tables.{Syntax, Entry, Row}
+use Rattle.tables.specs.Rows.{column, isRow, filled, rowIs, codesIn, rowsIn, entryIs, entriesIn, idsIn, tableOf}
 use Rattle.rules.specs.Elements.{elementCode, placeCodes, found, findingsFrom, findings}
 use Rattle.rules.specs.Segments.{Note, echoed, noted, over, reach, missing, segmentNote, walk, notesOf, standing, against, ownCode, moved, checkedBy, findingsBy, skipped}
 use Rattle.rules.specs.Segments as law

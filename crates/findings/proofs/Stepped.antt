@@ -10,7 +10,8 @@ use lib.ListN.{length, take, drop, getD}
 use lib.Seq.{slice, drop-drop, getD-drop}
 use Rattle.rules.specs.Base.{Bytes, ascii, all, between, isUpperOrDigit, every, if_then_else_}
 use Rattle.rules.specs.Cutting.{Segment, field, split}
-use Rattle.rules.specs.Tables.{Syntax, column, isRow, filled}
+use Rattle.rules.specs.Tables.{Syntax}
+use Rattle.tables.specs.Rows.{column, isRow, filled}
 use Rattle.rules.specs.Segments.{echoed}
 use Rattle.rules.specs.declared.Delimiters.{Delimiters}
 use Rattle.rules.specs.declared.Finding.{Finding}

@@ -11,7 +11,7 @@ use lib.ListN.{length, take, drop, getD, length-take, drop-of-length-le}
 use lib.Seq.{slice}
 use Rattle.rules.specs.Base.{Bytes, ascii, null, every, member, same, if_then_else_}
 use Rattle.rules.specs.Cutting.{Segment, field, split, segments}
-use Rattle.rules.specs.Tables.{column, idsIn}
+use Rattle.tables.specs.Rows.{column, idsIn}
 use Rattle.rules.specs.Elements.{findings}
 use Rattle.rules.specs.declared.Delimiters.{Delimiters}
 use Rattle.text.specs.Text.{indexOf}

@@ -7,7 +7,8 @@ use lib.ListN.{length, take, drop, getD}
 use lib.Seq.{slice}
 use Rattle.rules.specs.Base.{Bytes, ascii, null, if_then_else_}
 use Rattle.rules.specs.Cutting.{Segment, field, segments}
-use Rattle.rules.specs.Tables.{Syntax, column, isRow, rowIs, codesIn}
+use Rattle.rules.specs.Tables.{Syntax}
+use Rattle.tables.specs.Rows.{column, isRow, rowIs, codesIn}
 use Rattle.rules.specs.Elements.{findings}
 use Rattle.rules.specs.Segments.{echoed}
 use Rattle.rules.specs.declared.Delimiters.{Delimiters}

@@ -6,7 +6,7 @@ use lib.Dec.{ltb, eqb}
 use lib.ListN.{length, take, drop, getD}
 use Rattle.rules.specs.Base.{Bytes, Rule, _⇒_, every, ascii, null, all, between, isUpperOrDigit, member, same, if_then_else_}
 use Rattle.rules.specs.Cutting.{Segment, field, split}
-use Rattle.rules.specs.Tables.{column, isRow, idsIn}
+use Rattle.tables.specs.Rows.{column, isRow, idsIn}
 use Rattle.rules.specs.Elements.{findings}
 use Rattle.rules.specs.declared.Delimiters.{Delimiters}
 use Rattle.rules.specs.declared.Finding.{Finding}

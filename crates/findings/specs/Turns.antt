@@ -5,7 +5,7 @@ use mathlib.Core.List.{List, []}
 use lib.Dec.{ltb}
 use lib.ListN.{length, getD}
 use Rattle.rules.specs.Base.{Bytes, ascii, member, same, if_then_else_}
-use Rattle.rules.specs.Tables.{column, idsIn}
+use Rattle.tables.specs.Rows.{column, idsIn}
 use Rattle.tables.specs.Reading.{Guide, entryAt, reachFrom, nextMandatory, nextInOrder}
 use Rattle.findings.specs.Steps.{bumped}
 use Rattle.findings.specs.declared.Turn.{Turn}

@@ -7,7 +7,7 @@ ghost use lib.Dec.{ltb};
 ghost use lib.ListN.{length, getD};
 ghost use Rattle.rules.specs.Base.{all, between, isUpperOrDigit, null, if_then_else_};
 ghost use Rattle.rules.specs.Cutting as cutting;
-ghost use Rattle.rules.specs.Tables as law;
+ghost use Rattle.tables.specs.Rows as law;
 ghost use Rattle.findings.specs.Steps as steps;
 ghost use Rattle.findings.specs.Left as rest;
 ghost use Rattle.findings.specs.Turns as turns;

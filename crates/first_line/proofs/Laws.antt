@@ -16,13 +16,14 @@ use Rattle.rules.specs.Numbers.{digits, value}
 use Rattle.rules.specs.Program.{Input, parted, behindByte, isCall, refusedText, printedAs, printedCall, printedFor}
 use Rattle.rules.specs.Response.{response}
 use Rattle.rules.specs.Answers.{answer}
+use Rattle.rules.specs.declared.Call.{Call}
 use Rattle.rules.proofs.Logic.{and-left, and-right}
 use Rattle.text.specs.Text.{indexOf, indexWhere, upToTen}
 use Rattle.text.proofs.Digits.{digits-length, value-of, value-below}
 use Rattle.text.proofs.Loops.{and-false}
-use Rattle.first_line.specs.Calls.{callOn, callFor, callIn}
-use Rattle.first_line.specs.declared.Call.{Call}
-use Rattle.first_line.specs.declared.Call.the-variants.{Numbers, Bad}
+use Rattle.first_line.specs.Calls.{lineOn, lineFor, lineIn}
+use Rattle.first_line.specs.declared.FirstLine.{FirstLine}
+use Rattle.first_line.specs.declared.FirstLine.the-variants.{Numbers, Bad}
 
 -- 1. Parts of bytes.
 -- a part in the middle, cut at its end first or at its start first
@@ -86,7 +87,7 @@ nine-digits lo hi s r e h q =
 
 pub numbers-on : (l : Bytes) (date time control : ℕ) → isCall l ≡ true
     → date ≡ upToTen (take 8 l) → time ≡ upToTen (take 4 (drop 9 l)) → control ≡ upToTen (take (length l - 14) (drop 14 l))
-    → callOn l ≡ Numbers date time control (length l + 1)
+    → lineOn l ≡ Numbers (record { date = date; time = time; control = control }) (length l + 1)
 numbers-on l date time control e d t c =
     let p = call-line l e in
     rw (e, d ∙ value-of 8 8 _ (p .date) (omega arith), t ∙ value-of 4 4 _ (p .time) (omega arith), c ∙ value-of 1 9 _ (p .control) (omega arith), rest, middle 9 4 l)
@@ -120,24 +121,24 @@ line-at (b ∷ bs) h = go (eqb b 10) (line-at bs) h
 
 -- the call of an input, from what `find` ensures
 module _ (s : Bytes) (end : ℕ) (found : end ≡ 0 + indexOf 10 (drop 0 s)) where
-  pub no-call : length s ≤ end → callIn s ≡ Bad
-  unfolding callIn
+  pub no-call : length s ≤ end → lineIn s ≡ Bad
+  unfolding lineIn
   no-call h = let k : length s ≤ indexOf 10 s = omega arith in rw (no-line s k)
 
-  pub call-at : end < length s → callIn s ≡ callOn (take end s)
-  unfolding callIn
+  pub call-at : end < length s → lineIn s ≡ lineOn (take end s)
+  unfolding lineIn
   call-at h = let e : end ≡ indexOf 10 s = omega arith in rw e (rw (line-at s (omega arith)))
 
 -- 4. What callers use.
 -- what is printed for a call, with so much room for the response
-abbrev pub printedBy : Call → Bytes → ℕ → Bytes
-printedBy (Numbers date time control at) input room =
-    printedAs (answer (drop at input) room date time control) (response (drop at input) date time control)
+abbrev pub printedBy : FirstLine → Bytes → ℕ → Bytes
+printedBy (Numbers call at) input room =
+    printedAs (answer (drop at input) room call) (response (drop at input) call)
 printedBy Bad input room = refusedText 1
 
 -- where the interchange of a call starts
-abbrev startOf : Call → ℕ
-startOf (Numbers date time control at) = at
+abbrev startOf : FirstLine → ℕ
+startOf (Numbers call at) = at
 startOf Bad = 0
 
 -- an input that has a line, or has none
@@ -149,28 +150,28 @@ by-line s P without with = go (ltb (indexOf 10 s) (length s)) refl
     go false h = rw (no-line s (ltb-false (indexOf 10 s) (length s) h)) without
 
 module _ (input : Bytes) where
-  pub printed-by : (room : ℕ) (c : Call) → c ≡ callIn input → printedFor (parted input) room ≡ printedBy c input room
-  unfolding callIn printedCall
+  pub printed-by : (room : ℕ) (c : FirstLine) → c ≡ lineIn input → printedFor (parted input) room ≡ printedBy c input room
+  unfolding lineIn printedCall
   printed-by room c e =
       let n = indexOf 10 input in
       let l = take n input in
-      rw e (by-line input (λ i. printedFor i room ≡ printedBy (callFor i) input room) refl (λ h. go l (isCall l) (length-take-le n input (omega arith)) refl))
+      rw e (by-line input (λ i. printedFor i room ≡ printedBy (lineFor i) input room) refl (λ h. go l (isCall l) (length-take-le n input (omega arith)) refl))
     where
       go : (l : Bytes) (q : Bool) → length l ≡ indexOf 10 input → isCall l ≡ q
-          → printedFor (some (record { line = l; interchange = drop (suc (indexOf 10 input)) input })) room ≡ printedBy (callOn l) input room
+          → printedFor (some (record { line = l; interchange = drop (suc (indexOf 10 input)) input })) room ≡ printedBy (lineOn l) input room
       go l true k e = rw (e, k, add-one)
       go l false k e = rw e
 
-  start-within : startOf (callIn input) ≤ length input
-  unfolding callIn
+  start-within : startOf (lineIn input) ≤ length input
+  unfolding lineIn
   start-within =
       let n = indexOf 10 input in
       let l = take n input in
-      by-line input (λ i. startOf (callFor i) ≤ length input) (omega arith) (λ h. go l (isCall l) (omega (arith, length-take-le n input (omega arith))) refl)
+      by-line input (λ i. startOf (lineFor i) ≤ length input) (omega arith) (λ h. go l (isCall l) (omega (arith, length-take-le n input (omega arith))) refl)
     where
-      go : (l : Bytes) (q : Bool) → length l < length input → isCall l ≡ q → startOf (callOn l) ≤ length input
+      go : (l : Bytes) (q : Bool) → length l < length input → isCall l ≡ q → startOf (lineOn l) ≤ length input
       go l true k e = rw e (omega arith)
       go l false k e = rw e (omega arith)
 
-  pub starts-within : {date time control at : ℕ} → Numbers date time control at ≡ callIn input → at ≤ length input
+  pub starts-within : {call : Call} {at : ℕ} → Numbers call at ≡ lineIn input → at ≤ length input
   starts-within e = omega (arith, ap startOf e, start-within)

@@ -2,7 +2,8 @@
 ghost use mathlib.Core.Path.{_≡_};
 ghost use Rattle.rules.specs.Program.{isCall, refusedText};
 ghost use Rattle.writing.specs.Over.{Wrote};
-ghost use Rattle.first_line.specs.Calls.{callOn, callIn};
+ghost use Rattle.first_line.specs.Calls.{lineOn, lineIn};
+use rules::Call;
 use text::is_digits;
 use text::value;
 
@@ -15,34 +16,39 @@ const TIME_END: usize = 13;
 
 const CONTROL: usize = 14;
 
-// What the first line says: the date, the time, the control number and where the interchange starts.
-pub enum Call {
-    Numbers(u32, u32, u32, usize),
+// What the first line says: the caller's numbers, and where the interchange starts.
+pub enum FirstLine {
+    Numbers(Call, usize),
     Bad,
 }
 
 // The call that an input makes, by its first line; bad where that has no LF.
-pub fn call_of(input: &[u8]) -> Call
-    ensures { λ r. ⌜ r ≡ callIn (now (input .entry)) ⌝ }
+pub fn call_of(input: &[u8]) -> FirstLine
+    ensures { λ r. ⌜ r ≡ lineIn (now (input .entry)) ⌝ }
 {
     let end = text::find(input, 0, b'\n');
     if input.len() <= end {
-        return Call::Bad;
+        return FirstLine::Bad;
     }
     call_on(&input[..end])
 }
 
 // The call on a line that an LF ends; the interchange starts after that.
-fn call_on(line: &[u8]) -> Call
-    ensures { λ r. ⌜ r ≡ callOn (now (line .entry)) ⌝ }
+fn call_on(line: &[u8]) -> FirstLine
+    ensures { λ r. ⌜ r ≡ lineOn (now (line .entry)) ⌝ }
 {
     if !is_call(line) {
-        return Call::Bad;
+        return FirstLine::Bad;
     }
     let date = value(&line[..DATE_END]) as u32;
     let time = value(&line[TIME..TIME_END]) as u32;
     let control = value(&line[CONTROL..]) as u32;
-    Call::Numbers(date, time, control, line.len() + 1)
+    let call = Call {
+        date,
+        time,
+        control,
+    };
+    FirstLine::Numbers(call, line.len() + 1)
 }
 
 // 8, 4 and 1 to 9 digits with one space between.

@@ -6,8 +6,9 @@ use mathlib.Core.Option.{Option, none, some}
 use lib.ListN.{length, take, drop}
 use Rattle.rules.specs.Base.{Bytes, ascii, same, if_then_else_}
 use Rattle.rules.specs.Cutting.{Segment}
-use Rattle.rules.specs.Tables.{Table, tableOf}
+use Rattle.rules.specs.Tables.{Table}
 use Rattle.rules.specs.Groups.{supported, edition}
+use Rattle.tables.specs.Rows.{tableOf}
 use Rattle.tables.specs.Reading.{Guide, Limits}
 use Rattle.guides.specs.declared.Edition.{Edition}
 use Rattle.guides.specs.declared.Edition.the-variants.{E006010, E004010, Other}

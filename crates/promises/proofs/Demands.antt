@@ -15,6 +15,7 @@ use Rattle.rules.specs.Refusals.{refusal}
 use Rattle.rules.specs.Response.{out, response}
 use Rattle.rules.specs.Answers.{Allowed, answer, outcome, number, buffer}
 use Rattle.rules.specs.Damage.{Damaged, setsIn, rebuilt, opening, closing, joined, blocksIn, Stays}
+use Rattle.rules.specs.declared.Call.{Call}
 use Rattle.rules.specs.declared.Answer.{Answer}
 use Rattle.rules.proofs.Damage.{response-parts, one-spoiled}
 use Rattle.acknowledgment.proofs.acknowledge.Reads as acknowledge
@@ -24,74 +25,74 @@ pub asks-nothing : (κs : _) (a : _) → acknowledge.Pre κs a
 asks-nothing κs a = tt
 
 pub allows : (κs : _) (a : _) (r : _) (s : _) → acknowledge.Post κs a r s
-    → Allowed (now (a .0)) (now (a .1 .0)) (a .1 .1 .0) (a .1 .1 .1 .0) (a .1 .1 .1 .1 .0) r (now (s .1 .0))
+    → Allowed (now (a .0)) (now (a .1 .0)) (a .1 .1 .0) r (now (s .1 .0))
 allows κs a r s p = p
 
-module _ (i lent : Bytes) (date time control : ℕ) (a : Answer) (left : Bytes) (p : Allowed i lent date time control a left) where
+module _ (i lent : Bytes) (call : Call) (a : Answer) (left : Bytes) (p : Allowed i lent call a left) where
   -- 1. A refusal gives its number and the length 0, and every byte of the buffer is as lent.
-  pub refused : (refusal i date time control ≡ 0 → ⊥)
-      → outcome a left ≡ record { number = refusal i date time control; size = 0; buffer = lent }
+  pub refused : (refusal i call ≡ 0 → ⊥)
+      → outcome a left ≡ record { number = refusal i call; size = 0; buffer = lent }
   unfolding Allowed answer
   refused h = rw (p .1, p .0, ne-eqb _ 0 h)
 
   -- 2. Without a refusal the response of document 01 stands at the start of the buffer, with its length, and every byte after it is as lent;
-  pub answered : refusal i date time control ≡ 0 → length (response i date time control) ≤ length lent
+  pub answered : refusal i call ≡ 0 → length (response i call) ≤ length lent
       → outcome a left
       ≡ record {
         number = 0;
-        size = length (response i date time control);
-        buffer = response i date time control ++ drop (length (response i date time control)) lent;
+        size = length (response i call);
+        buffer = response i call ++ drop (length (response i call)) lent;
       }
   unfolding Allowed answer
   answered e fits = rw (p .1, p .0, e, le-leb _ _ fits)
 
   -- where it does not fit, the number is 14, the length the one that is needed, and the buffer is as lent.
-  pub too-long : refusal i date time control ≡ 0 → length lent < length (response i date time control)
-      → outcome a left ≡ record { number = 14; size = length (response i date time control); buffer = lent }
+  pub too-long : refusal i call ≡ 0 → length lent < length (response i call)
+      → outcome a left ≡ record { number = 14; size = length (response i call); buffer = lent }
   unfolding Allowed answer
   too-long e h = rw (p .1, p .0, e, lt-leb _ _ h)
 
   -- an answer with the number 0 is the response
-  pub is-response : number a ≡ 0 → left ≡ response i date time control ++ drop (length (response i date time control)) lent
+  pub is-response : number a ≡ 0 → left ≡ response i call ++ drop (length (response i call)) lent
   unfolding Allowed answer
-  is-response e = p .1 ∙ go (eqb (refusal i date time control) 0) refl (leb (length (response i date time control)) (length lent)) refl
+  is-response e = p .1 ∙ go (eqb (refusal i call) 0) refl (leb (length (response i call)) (length lent)) refl
     where
-      e′ : number (answer i (length lent) date time control) ≡ 0
+      e′ : number (answer i (length lent) call) ≡ 0
       e′ = ap number (sym (p .0)) ∙ e
 
-      go : (b : Bool) → eqb (refusal i date time control) 0 ≡ b → (c : Bool) → leb (length (response i date time control)) (length lent) ≡ c
-          → buffer a (response i date time control) lent ≡ response i date time control ++ drop (length (response i date time control)) lent
+      go : (b : Bool) → eqb (refusal i call) 0 ≡ b → (c : Bool) → leb (length (response i call)) (length lent) ≡ c
+          → buffer a (response i call) lent ≡ response i call ++ drop (length (response i call)) lent
       go true q true k = rw (p .0, q, k)
       go true q false k = absurd (omega (arith, rw (q, k) at e′))
       go false q c k = absurd (eqb-false _ 0 q (rw q at e′))
 
 -- 3. One spoiled set stays one spoiled set: two calls, before and after any sets of the interchange got other segments between header and trailer.
 -- the bytes of a buffer after a response to i: what precedes the blocks, the blocks of the sets, what follows them, and what was lent
-abbrev pub inParts : Bytes → Bytes → ℕ → ℕ → ℕ → Bytes
-inParts i lent date time control =
-    out (delimiters i) (opening i date time control) ++ joined (blocksIn i) ++ out (delimiters i) (closing i control)
-    ++ drop (length (response i date time control)) lent
+abbrev pub inParts : Bytes → Bytes → Call → Bytes
+inParts i lent call =
+    out (delimiters i) (opening i call) ++ joined (blocksIn i) ++ out (delimiters i) (closing i call)
+    ++ drop (length (response i call)) lent
 
-pub record OneSpoiled (i j : Bytes) (after : List Set) (lent lent′ : Bytes) (date time control : ℕ) (a′ : Answer) (left left′ : Bytes) : Type 0 where
+pub record OneSpoiled (i j : Bytes) (after : List Set) (lent lent′ : Bytes) (call : Call) (a′ : Answer) (left left′ : Bytes) : Type 0 where
   pub answered : number a′ ≡ 0
-  pub before : left ≡ inParts i lent date time control
-  pub since : left′ ≡ out (delimiters i) (opening i date time control) ++ joined (blocksIn j) ++ out (delimiters i) (closing j control)
-      ++ drop (length (response j date time control)) lent′
-  pub stays : Stays i j lent′ after date time control
+  pub before : left ≡ inParts i lent call
+  pub since : left′ ≡ out (delimiters i) (opening i call) ++ joined (blocksIn j) ++ out (delimiters i) (closing j call)
+      ++ drop (length (response j call)) lent′
+  pub stays : Stays i j lent′ after call
 
-pub spoiled : (i lent lent′ : Bytes) (date time control : ℕ) (a a′ : Answer) (left left′ : Bytes)
-    → Allowed i lent date time control a left → number a ≡ 0
+pub spoiled : (i lent lent′ : Bytes) (call : Call) (a a′ : Answer) (left left′ : Bytes)
+    → Allowed i lent call a left → number a ≡ 0
     → (after : List Set) → Damaged (delimiters i) (setsIn i) after → length (rebuilt i after) ≤ 65536
-    → Allowed (rebuilt i after) lent′ date time control a′ left′ → length (response (rebuilt i after) date time control) ≤ length lent′
-    → OneSpoiled i (rebuilt i after) after lent lent′ date time control a′ left left′
+    → Allowed (rebuilt i after) lent′ call a′ left′ → length (response (rebuilt i after) call) ≤ length lent′
+    → OneSpoiled i (rebuilt i after) after lent lent′ call a′ left left′
 unfolding Allowed
-spoiled i lent lent′ date time control a a′ left left′ p e after damaged short q fits =
-    let s = one-spoiled i lent date time control (ap number (sym (p .0)) ∙ e) after damaged short lent′ fits in
+spoiled i lent lent′ call a a′ left left′ p e after damaged short q fits =
+    let s = one-spoiled i lent call (ap number (sym (p .0)) ∙ e) after damaged short lent′ fits in
     record {
       answered = ap number (q .0) ∙ s .answered;
       before =
-          is-response i lent date time control a left p e
-          ∙ ap (λ (l : Bytes). l ++ drop (length (response i date time control)) lent) (response-parts i date time control);
-      since = q .1 ∙ ap (λ (x : Answer). buffer x (response (rebuilt i after) date time control) lent′) (q .0) ∙ s .written;
+          is-response i lent call a left p e
+          ∙ ap (λ (l : Bytes). l ++ drop (length (response i call)) lent) (response-parts i call);
+      since = q .1 ∙ ap (λ (x : Answer). buffer x (response (rebuilt i after) call) lent′) (q .0) ∙ s .written;
       stays = s;
     }

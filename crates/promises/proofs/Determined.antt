@@ -3,7 +3,6 @@
 use mathlib.Core.Path.{_≡_, sym, ap, _∙_}
 use mathlib.Core.List.{List}
 use Prim.Native.Nat.{ℕ}
-use lib.ListN.{getD}
 use denote.Ref.{now}
 use Rattle.rules.specs.Base.{Bytes}
 use Rattle.rules.specs.Cutting.{Segment}
@@ -31,17 +30,17 @@ use Rattle.text.proofs.all_valid.Reads as text-all-valid
 use Rattle.text.proofs.is_text.Reads as text-is-text
 use Rattle.text.proofs.is_name.Reads as text-is-name
 use Rattle.text.proofs.unsigned.Reads as text-unsigned
-use Rattle.envelope.proofs.call_refusal.Reads as envelope-call-refusal
-use Rattle.envelope.proofs.head_refusal.Reads as envelope-head-refusal
-use Rattle.envelope.proofs.end_refusal.Reads as envelope-end-refusal
-use Rattle.envelope.proofs.delimiters.Reads as envelope-delimiters
-use Rattle.envelope.proofs.isa_field.Reads as envelope-isa-field
+use Rattle.caller.proofs.call_refusal.Reads as caller-call-refusal
+use Rattle.isa.proofs.head_refusal.Reads as isa-head-refusal
+use Rattle.isa.proofs.end_refusal.Reads as isa-end-refusal
+use Rattle.isa.proofs.delimiters.Reads as isa-delimiters
+use Rattle.isa.proofs.isa_field.Reads as isa-isa-field
 use Rattle.segments.proofs.field.Reads as segments-field
 use Rattle.segments.proofs.id.Reads as segments-id
 use Rattle.segments.proofs.is_named.Reads as segments-is-named
 use Rattle.segments.proofs.is_present.Reads as segments-is-present
 use Rattle.segments.proofs.field_count.Reads as segments-field-count
-use Rattle.frame.proofs.frame_of.Reads as frame-frame-of
+use Rattle.envelope.proofs.frame_of.Reads as envelope-frame-of
 use Rattle.headers.proofs.trailer_refusal.Reads as headers-trailer-refusal
 use Rattle.headers.proofs.header_refusal.Reads as headers-header-refusal
 use Rattle.headers.proofs.answer_refusal.Reads as headers-answer-refusal
@@ -50,15 +49,10 @@ use Rattle.text.proofs.part.Reads as text-part
 use Rattle.sets.proofs.set_refusal.Reads as sets-set-refusal
 use Rattle.register.proofs.search.Reads as register-search
 use Rattle.refusals.proofs.check.Reads as refusals-check
+use Rattle.verdicts.proofs.Codes.none.Reads as verdicts-Codes-none
 use Rattle.verdicts.proofs.Codes.is_empty.Reads as verdicts-Codes-is-empty
 use Rattle.verdicts.proofs.set_codes.Reads as verdicts-set-codes
-use Rattle.verdicts.proofs.edition_of.Reads as verdicts-edition-of
-use Rattle.verdicts.proofs.is_supported.Reads as verdicts-is-supported
-use Rattle.verdicts.proofs.is_load_response.Reads as verdicts-is-load-response
-use Rattle.verdicts.proofs.group_codes.Reads as verdicts-group-codes
-use Rattle.verdicts.proofs.declared_sets.Reads as verdicts-declared-sets
-use Rattle.verdicts.proofs.verdict.Reads as verdicts-verdict
-use Rattle.verdicts.proofs.allowed.Reads as verdicts-allowed
+use Rattle.verdicts.proofs.summary_of.Reads as verdicts-summary-of
 use Rattle.tables.proofs.number.Reads as tables-number
 use Rattle.tables.proofs.is_segment.Reads as tables-is-segment
 use Rattle.tables.proofs.is_element.Reads as tables-is-element
@@ -74,8 +68,11 @@ use Rattle.tables.proofs.is_listed.Reads as tables-is-listed
 use Rattle.tables.proofs.id_at.Reads as tables-id-at
 use Rattle.tables.proofs.is_known.Reads as tables-is-known
 use Rattle.guides.proofs.directory.Reads as guides-directory
-use Rattle.guides.proofs.guide_006010.Reads as guides-guide-006010
-use Rattle.guides.proofs.guide_004010.Reads as guides-guide-004010
+use Rattle.guides.proofs.rows.Reads as guides-rows
+use Rattle.guides.proofs.Edition.has_tables.Reads as guides-Edition-has-tables
+use Rattle.guides.proofs.scope_of.Reads as guides-scope-of
+use Rattle.guides.proofs.TableAt.is_there.Reads as guides-TableAt-is-there
+use Rattle.guides.proofs.table_of.Reads as guides-table-of
 use Rattle.elements.proofs.next_code.Reads as elements-next-code
 use Rattle.elements.proofs.is_clean.Reads as elements-is-clean
 use Rattle.findings.proofs.start.Reads as findings-start
@@ -198,21 +195,22 @@ text-is-name-once κs a r₁ r₂ s₁ s₂ p q = p ∙ sym q
 text-unsigned-once : Once text-unsigned.Post (λ κs r s. now r)
 text-unsigned-once κs a r₁ r₂ s₁ s₂ p q = p ∙ sym q
 
--- envelope
-envelope-call-refusal-once : Once envelope-call-refusal.Post (λ κs r s. r)
-envelope-call-refusal-once κs a r₁ r₂ s₁ s₂ p q = p ∙ sym q
+-- caller
+caller-call-refusal-once : Once caller-call-refusal.Post (λ κs r s. r)
+caller-call-refusal-once κs a r₁ r₂ s₁ s₂ p q = p ∙ sym q
 
-envelope-head-refusal-once : Once envelope-head-refusal.Post (λ κs r s. r)
-envelope-head-refusal-once κs a r₁ r₂ s₁ s₂ p q = p ∙ sym q
+-- isa
+isa-head-refusal-once : Once isa-head-refusal.Post (λ κs r s. r)
+isa-head-refusal-once κs a r₁ r₂ s₁ s₂ p q = p ∙ sym q
 
-envelope-end-refusal-once : Once envelope-end-refusal.Post (λ κs r s. r)
-envelope-end-refusal-once κs a r₁ r₂ s₁ s₂ p q = p ∙ sym q
+isa-end-refusal-once : Once isa-end-refusal.Post (λ κs r s. r)
+isa-end-refusal-once κs a r₁ r₂ s₁ s₂ p q = p ∙ sym q
 
-envelope-delimiters-once : Once envelope-delimiters.Post (λ κs r s. r)
-envelope-delimiters-once κs a r₁ r₂ s₁ s₂ p q = p ∙ sym q
+isa-delimiters-once : Once isa-delimiters.Post (λ κs r s. r)
+isa-delimiters-once κs a r₁ r₂ s₁ s₂ p q = p ∙ sym q
 
-envelope-isa-field-once : Once envelope-isa-field.Post (λ κs r s. now r)
-envelope-isa-field-once κs a r₁ r₂ s₁ s₂ p q = p ∙ sym q
+isa-isa-field-once : Once isa-isa-field.Post (λ κs r s. now r)
+isa-isa-field-once κs a r₁ r₂ s₁ s₂ p q = p ∙ sym q
 
 -- segments
 segments-field-once : Once segments-field.Post (λ κs r s. now r)
@@ -230,9 +228,9 @@ segments-is-present-once κs a r₁ r₂ s₁ s₂ p q = p ∙ sym q
 segments-field-count-once : Once segments-field-count.Post (λ κs r s. r)
 segments-field-count-once κs a r₁ r₂ s₁ s₂ p q = p ∙ sym q
 
--- frame
-frame-frame-of-once : Once frame-frame-of.Post (λ κs r s. r)
-frame-frame-of-once κs a r₁ r₂ s₁ s₂ p q = p ∙ sym q
+-- envelope
+envelope-frame-of-once : Once envelope-frame-of.Post (λ κs r s. r)
+envelope-frame-of-once κs a r₁ r₂ s₁ s₂ p q = p ∙ sym q
 
 -- headers
 headers-trailer-refusal-once : Once headers-trailer-refusal.Post (λ κs r s. r)
@@ -263,32 +261,17 @@ refusals-check-once : Once refusals-check.Post (λ κs r s. r)
 refusals-check-once κs a r₁ r₂ s₁ s₂ p q = p ∙ sym q
 
 -- verdicts
+verdicts-Codes-none-once : Once verdicts-Codes-none.Post (λ κs r s. r)
+verdicts-Codes-none-once κs a r₁ r₂ s₁ s₂ p q = p ∙ sym q
+
 verdicts-Codes-is-empty-once : Once verdicts-Codes-is-empty.Post (λ κs r s. r)
 verdicts-Codes-is-empty-once κs a r₁ r₂ s₁ s₂ p q = p ∙ sym q
 
 verdicts-set-codes-once : Once verdicts-set-codes.Post (λ κs r s. r)
 verdicts-set-codes-once κs a r₁ r₂ s₁ s₂ p q = p ∙ sym q
 
-verdicts-edition-of-once : Once verdicts-edition-of.Post (λ κs r s. r)
-verdicts-edition-of-once κs a r₁ r₂ s₁ s₂ p q = p ∙ sym q
-
-verdicts-is-supported-once : Once verdicts-is-supported.Post (λ κs r s. r)
-verdicts-is-supported-once κs a r₁ r₂ s₁ s₂ p q = p ∙ sym q
-
-verdicts-is-load-response-once : Once verdicts-is-load-response.Post (λ κs r s. r)
-verdicts-is-load-response-once κs a r₁ r₂ s₁ s₂ p q = p ∙ sym q
-
-verdicts-group-codes-once : Once verdicts-group-codes.Post (λ κs r s. r)
-verdicts-group-codes-once κs a r₁ r₂ s₁ s₂ p q = p ∙ sym q
-
-verdicts-declared-sets-once : Once verdicts-declared-sets.Post (λ κs r s. r)
-verdicts-declared-sets-once κs a r₁ r₂ s₁ s₂ p q = p ∙ sym q
-
-verdicts-verdict-once : Once verdicts-verdict.Post (λ κs r s. r)
-verdicts-verdict-once κs a r₁ r₂ s₁ s₂ p q = ap (λ (l : List ℕ). getD l 0 0) (p ∙ sym q)
-
-verdicts-allowed-once : Once verdicts-allowed.Post (λ κs r s. r)
-verdicts-allowed-once κs a r₁ r₂ s₁ s₂ p q = p ∙ sym q
+verdicts-summary-of-once : Once verdicts-summary-of.Post (λ κs r s. r)
+verdicts-summary-of-once κs a r₁ r₂ s₁ s₂ p q = p ∙ sym q
 
 -- tables
 tables-number-once : Once tables-number.Post (λ κs r s. r)
@@ -337,11 +320,20 @@ tables-is-known-once κs a r₁ r₂ s₁ s₂ p q = p ∙ sym q
 guides-directory-once : Once guides-directory.Post (λ κs r s. r)
 guides-directory-once κs a r₁ r₂ s₁ s₂ p q = p ∙ sym q
 
-guides-guide-006010-once : Once guides-guide-006010.Post (λ κs r s. r)
-guides-guide-006010-once κs a r₁ r₂ s₁ s₂ p q = p ∙ sym q
+guides-rows-once : Once guides-rows.Post (λ κs r s. r)
+guides-rows-once κs a r₁ r₂ s₁ s₂ p q = p ∙ sym q
 
-guides-guide-004010-once : Once guides-guide-004010.Post (λ κs r s. r)
-guides-guide-004010-once κs a r₁ r₂ s₁ s₂ p q = p ∙ sym q
+guides-Edition-has-tables-once : Once guides-Edition-has-tables.Post (λ κs r s. r)
+guides-Edition-has-tables-once κs a r₁ r₂ s₁ s₂ p q = p ∙ sym q
+
+guides-scope-of-once : Once guides-scope-of.Post (λ κs r s. r)
+guides-scope-of-once κs a r₁ r₂ s₁ s₂ p q = p ∙ sym q
+
+guides-TableAt-is-there-once : Once guides-TableAt-is-there.Post (λ κs r s. r)
+guides-TableAt-is-there-once κs a r₁ r₂ s₁ s₂ p q = p ∙ sym q
+
+guides-table-of-once : Once guides-table-of.Post (λ κs r s. r)
+guides-table-of-once κs a r₁ r₂ s₁ s₂ p q = p ∙ sym q
 
 -- elements
 elements-next-code-once : Once elements-next-code.Post (λ κs r s. r)
@@ -446,7 +438,7 @@ first-line-put-refused-once κs a r₁ r₂ s₁ s₂ p q = wrote-once p q
 -- acknowledgment
 acknowledgment-acknowledge-once : Once acknowledgment-acknowledge.Post (λ κs r s. written r (now (s .1 .0)))
 acknowledgment-acknowledge-once κs a r₁ r₂ s₁ s₂ p q =
-    both-same (once-answer _ _ _ _ _ _ _ _ _ p q) (ap (λ (o : Outcome). o .buffer) (once _ _ _ _ _ _ _ _ _ p q))
+    both-same (once-answer _ _ _ _ _ _ _ p q) (ap (λ (o : Outcome). o .buffer) (once _ _ _ _ _ _ _ p q))
 
 acknowledgment-x12-acknowledge-once : Once acknowledgment-x12-acknowledge.Post (λ κs r s. outcome r (now (s .1 .1 .1 .1 .1 .0)) (now (s .1 .0)))
 acknowledgment-x12-acknowledge-once κs a r₁ r₂ s₁ s₂ p q = p ∙ sym q

@@ -10,14 +10,15 @@ use Rattle.rules.specs.Base.{Bytes, first, last}
 use Rattle.rules.specs.Cutting.{Segment, field, isa, delimiters, segments, split}
 use Rattle.rules.specs.Groups.{Group, groupOf}
 use Rattle.rules.specs.Refusals.{callRules, headRules, endRules, envelopeRules, trailerRules, groupRules, answerRules, setRules, refusal}
+use Rattle.rules.specs.declared.Call.{Call}
 use Rattle.rules.specs.declared.Delimiters.{Delimiters}
 use Rattle.rules.proofs.Facts.{firstOf, refusal-blocks}
 use Rattle.text.specs.Text.{part}
-use Rattle.frame.specs.Places.{frameOf}
-use Rattle.frame.specs.declared.Frame.{Frame}
-use Rattle.frame.specs.declared.Framed.{Framed}
-use Rattle.frame.specs.declared.Framed.the-variants.{Whole, Broken}
-use Rattle.frame.proofs.Laws.{FrameIs, whole-is, whole-passes, broken-refused}
+use Rattle.envelope.specs.Places.{frameOf}
+use Rattle.envelope.specs.declared.Frame.{Frame}
+use Rattle.envelope.specs.declared.Framed.{Framed}
+use Rattle.envelope.specs.declared.Framed.the-variants.{Whole, Broken}
+use Rattle.envelope.proofs.Laws.{FrameIs, whole-is, whole-passes, broken-refused}
 use Rattle.headers.specs.Rules.{headerRules, acknowledgmentRules}
 use Rattle.headers.proofs.Laws.{header-rules, acknowledgment-rules}
 use Rattle.sets.specs.Groups.{setRefusal}
@@ -62,9 +63,9 @@ pub record Unrefused (i : Bytes) : Type 0 where
   pub envelope : first (envelopeRules (segments (delimiters i) i)) ≡ 0
   pub sets : first (setRules (delimiters i) (groupOf (segments (delimiters i) i))) ≡ 0
 
-pub unrefused : (i : Bytes) (date time control : ℕ) → refusal i date time control ≡ 0 → Unrefused i
-unrefused i date time control e =
-    let blocks = clear _ (sym (refusal-blocks i date time control) ∙ e) in
+pub unrefused : (i : Bytes) (call : Call) → refusal i call ≡ 0 → Unrefused i
+unrefused i call e =
+    let blocks = clear _ (sym (refusal-blocks i call) ∙ e) in
     record { head = blocks .1 .0; envelope = blocks .1 .1 .1 .0; sets = blocks .1 .1 .1 .1 .1 .1 .1 .0 }
 
 -- 2. The blocks over the parts of a frame.
@@ -86,21 +87,21 @@ module _ {d : Delimiters} {i : Bytes} {f : Frame} (w : FrameIs d i f) where
   sets-block p = p ∙ rw (w .group, refusal-of)
 
 -- 3. The answer of the checks.
-module _ (i : Bytes) (date time control : ℕ) where
-  pub refused : (n : ℕ) → n ≡ refusal i date time control → (n ≡ 0 → ⊥) → Refused n ≡ checked i date time control
+module _ (i : Bytes) (call : Call) where
+  pub refused : (n : ℕ) → n ≡ refusal i call → (n ≡ 0 → ⊥) → Refused n ≡ checked i call
   unfolding checked
   refused n e h = rw (← e, ne-eqb n 0 h)
 
-  pub broken : refusal i date time control ≡ 7 → Refused 7 ≡ checked i date time control
+  pub broken : refusal i call ≡ 7 → Refused 7 ≡ checked i call
   unfolding checked
   broken e = rw e
 
-  pub sound : (f : Frame) → 0 ≡ refusal i date time control → Whole f ≡ frameOf (delimiters i) i → Sound f ≡ checked i date time control
+  pub sound : (f : Frame) → 0 ≡ refusal i call → Whole f ≡ frameOf (delimiters i) i → Sound f ≡ checked i call
   unfolding checked
   sound f e w = rw (← e, ← w)
 
 -- where the first three blocks pass, the frame decides
-module _ (i : Bytes) (date time control : ℕ) {a b c : ℕ} (p : a ≡ first (callRules date time control)) (p₀ : a ≡ 0) (q : b ≡ first (headRules i))
+module _ (i : Bytes) (call : Call) {a b c : ℕ} (p : a ≡ first (callRules call)) (p₀ : a ≡ 0) (q : b ≡ first (headRules i))
     (q₀ : b ≡ 0) (r : c ≡ first (endRules i)) (r₀ : c ≡ 0) where
   past-three : (n : ℕ)
       → n ≡ firstOf (
@@ -110,15 +111,15 @@ module _ (i : Bytes) (date time control : ℕ) {a b c : ℕ} (p : a ≡ first (c
       ∷ (first (answerRules (groupOf (segments (delimiters i) i)))
       ∷ (first (setRules (delimiters i) (groupOf (segments (delimiters i) i)))
       ∷ [])))))
-      → n ≡ refusal i date time control
-  past-three n e = onward _ p p₀ (onward _ q q₀ (onward _ r r₀ e)) ∙ sym (refusal-blocks i date time control)
+      → n ≡ refusal i call
+  past-three n e = onward _ p p₀ (onward _ q q₀ (onward _ r r₀ e)) ∙ sym (refusal-blocks i call)
 
-  pub inner-decides : {d : Delimiters} {f : Frame} {n : ℕ} → d ≡ delimiters i → frameOf d i ≡ Whole f → n ≡ innerRefusal d i → n ≡ refusal i date time control
+  pub inner-decides : {d : Delimiters} {f : Frame} {n : ℕ} → d ≡ delimiters i → frameOf d i ≡ Whole f → n ≡ innerRefusal d i → n ≡ refusal i call
   unfolding innerRefusal
   inner-decides {d} {f} {n} e w k =
       past-three n (onward _ (sym (whole-passes (delimiters i) i {f = f} (rw e at w))) refl (rw e at k))
 
-  pub broken-decides : {d : Delimiters} → d ≡ delimiters i → frameOf d i ≡ Broken → 7 ≡ refusal i date time control
+  pub broken-decides : {d : Delimiters} → d ≡ delimiters i → frameOf d i ≡ Broken → 7 ≡ refusal i call
   broken-decides {d} e w = past-three 7 (here _ (sym (broken-refused (delimiters i) i (rw e at w))) (λ z. absurd (omega arith)))
 
 -- 4. What an answer of the checks says.
@@ -131,27 +132,27 @@ refused-broken : (w : Framed) {n : ℕ} → Refused n ≡ soundIn w → w ≡ Br
 refused-broken (Whole g) e = let z : _≡_ {A = ℕ} 0 1 = cc in absurd (omega arith)
 refused-broken Broken e = refl
 
-module _ (i : Bytes) (date time control : ℕ) where
+module _ (i : Bytes) (call : Call) where
   -- no frame is broken where there is no refusal
-  never-broken : refusal i date time control ≡ 0 → frameOf (delimiters i) i ≡ Broken → ⊥
+  never-broken : refusal i call ≡ 0 → frameOf (delimiters i) i ≡ Broken → ⊥
   never-broken e w =
-      let z : _≡_ {A = ℕ} 7 0 = sym (broken-refused (delimiters i) i w) ∙ unrefused i date time control e .envelope in
+      let z : _≡_ {A = ℕ} 7 0 = sym (broken-refused (delimiters i) i w) ∙ unrefused i call e .envelope in
       omega arith
 
   -- sound: there is no refusal, and the frame is that of the interchange
-  pub sound-clear : {f : Frame} → Sound f ≡ checked i date time control → (refusal i date time control ≡ 0) × FrameIs (delimiters i) i f
+  pub sound-clear : {f : Frame} → Sound f ≡ checked i call → (refusal i call ≡ 0) × FrameIs (delimiters i) i f
   unfolding checked
-  sound-clear {f} e = go (eqb (refusal i date time control) 0) refl
+  sound-clear {f} e = go (eqb (refusal i call) 0) refl
     where
-      go : (b : Bool) → eqb (refusal i date time control) 0 ≡ b → (refusal i date time control ≡ 0) × FrameIs (delimiters i) i f
+      go : (b : Bool) → eqb (refusal i call) 0 ≡ b → (refusal i call ≡ 0) × FrameIs (delimiters i) i f
       go true p = (eqb-true _ 0 p, whole-is (delimiters i) i (sound-whole _ (rw p at e)))
       go false p = let q = rw p at e in let z : _≡_ {A = ℕ} 0 1 = cc in absurd (omega arith)
 
   -- refused: the number is that of the refusal
-  pub refused-due : {n : ℕ} → Refused n ≡ checked i date time control → (n ≡ refusal i date time control) × (n ≡ 0 → ⊥)
+  pub refused-due : {n : ℕ} → Refused n ≡ checked i call → (n ≡ refusal i call) × (n ≡ 0 → ⊥)
   unfolding checked
-  refused-due {n} e = go (eqb (refusal i date time control) 0) refl
+  refused-due {n} e = go (eqb (refusal i call) 0) refl
     where
-      go : (b : Bool) → eqb (refusal i date time control) 0 ≡ b → (n ≡ refusal i date time control) × (n ≡ 0 → ⊥)
+      go : (b : Bool) → eqb (refusal i call) 0 ≡ b → (n ≡ refusal i call) × (n ≡ 0 → ⊥)
       go true p = absurd (never-broken (eqb-true _ 0 p) (refused-broken _ (rw p at e)))
-      go false p = let q : n ≡ refusal i date time control = cc (rw p at e) in (q, λ z. eqb-false _ 0 p (sym q ∙ z))
+      go false p = let q : n ≡ refusal i call = cc (rw p at e) in (q, λ z. eqb-false _ 0 p (sym q ∙ z))

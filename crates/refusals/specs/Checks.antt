@@ -6,11 +6,12 @@ use Rattle.rules.specs.Base.{Bytes, first, last, if_then_else_}
 use Rattle.rules.specs.Cutting.{field, isa, delimiters, segments}
 use Rattle.rules.specs.Groups.{groupOf}
 use Rattle.rules.specs.Refusals.{trailerRules, groupRules, answerRules, setRules, refusal}
+use Rattle.rules.specs.declared.Call.{Call}
 use Rattle.rules.specs.declared.Delimiters.{Delimiters}
 use Rattle.rules.proofs.Facts.{firstOf}
-use Rattle.frame.specs.Places.{frameOf}
-use Rattle.frame.specs.declared.Framed.{Framed}
-use Rattle.frame.specs.declared.Framed.the-variants.{Whole, Broken}
+use Rattle.envelope.specs.Places.{frameOf}
+use Rattle.envelope.specs.declared.Framed.{Framed}
+use Rattle.envelope.specs.declared.Framed.the-variants.{Whole, Broken}
 use Rattle.refusals.specs.declared.Checked.{Checked}
 use Rattle.refusals.specs.declared.Checked.the-variants.{Sound, Refused}
 
@@ -31,7 +32,7 @@ soundIn (Whole f) = Sound f
 soundIn Broken = Refused 7
 
 -- the refusal, or the frame of an interchange without one
-unfoldable pub checked : Bytes → ℕ → ℕ → ℕ → Checked
-checked i date time control =
-    let n = refusal i date time control in
+unfoldable pub checked : Bytes → Call → Checked
+checked i call =
+    let n = refusal i call in
     if eqb n 0 then soundIn (frameOf (delimiters i) i) else Refused n

@@ -1,10 +1,11 @@
 // All refusals before the response, in their order.
 ghost use mathlib.Core.Path.{_≡_};
 ghost use Rattle.rules.specs.Cutting as cutting;
-ghost use Rattle.frame.proofs.Laws.{FrameIs};
+ghost use Rattle.envelope.proofs.Laws.{FrameIs};
 ghost use Rattle.refusals.specs.Checks.{innerRefusal, checked};
-use frame::Frame;
-use frame::Framed;
+use envelope::Frame;
+use envelope::Framed;
+use rules::Call;
 use rules::Delimiters;
 
 // What the checks come to: the frame of an interchange that can be answered, or the number of the refusal.
@@ -20,7 +21,7 @@ fn inner_refusal(i: &[u8], d: Delimiters, f: Frame) -> u8
 {
     let iea = f.iea;
     let iea_end = f.iea_end;
-    let n = headers::trailer_refusal(&i[iea..iea_end], envelope::isa_field(i, 13), d);
+    let n = headers::trailer_refusal(&i[iea..iea_end], isa::isa_field(i, 13), d);
     if n != 0 {
         return n;
     }
@@ -40,23 +41,23 @@ fn inner_refusal(i: &[u8], d: Delimiters, f: Frame) -> u8
 }
 
 // Refusals 1 to 13, the first that applies.
-pub fn check(i: &[u8], date: u32, time: u32, control: u32) -> Checked
-    ensures { λ r. ⌜ r ≡ checked (now (i .entry)) date time control ⌝ }
+pub fn check(i: &[u8], call: Call) -> Checked
+    ensures { λ r. ⌜ r ≡ checked (now (i .entry)) call ⌝ }
 {
-    let n = envelope::call_refusal(date, time, control);
+    let n = caller::call_refusal(call);
     if n != 0 {
         return Checked::Refused(n);
     }
-    let n = envelope::head_refusal(i);
+    let n = isa::head_refusal(i);
     if n != 0 {
         return Checked::Refused(n);
     }
-    let n = envelope::end_refusal(i);
+    let n = isa::end_refusal(i);
     if n != 0 {
         return Checked::Refused(n);
     }
-    let d = envelope::delimiters(i);
-    match frame::frame_of(i, d) {
+    let d = isa::delimiters(i);
+    match envelope::frame_of(i, d) {
         Framed::Whole(f) => {
             let n = inner_refusal(i, d, f);
             if n != 0 {

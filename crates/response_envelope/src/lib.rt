@@ -5,6 +5,7 @@ ghost use Rattle.rules.specs.Numbers.{decimal, padded};
 ghost use Rattle.rules.specs.Cutting.{field, split, isa};
 ghost use Rattle.rules.specs.Response.{fieldsOut, segmentOut, isaOut, gsOut, geOut, ieaOut};
 ghost use Rattle.writing.specs.Over.{From};
+use rules::Call;
 use rules::Delimiters;
 
 // ISA01 and ISA02, or ISA03 and ISA04: no authorization, no security.
@@ -19,49 +20,34 @@ fn add_no_information(out: &mut [u8], n: usize, d: Delimiters) -> usize
 fn add_isa_parties(out: &mut [u8], n: usize, d: Delimiters, i: &[u8]) -> usize
     ensures { λ r. ⌜ From n (fieldsOut d (field (isa (now (i .entry))) 7 ∷ field (isa (now (i .entry))) 8 ∷ field (isa (now (i .entry))) 5 ∷ field (isa (now (i .entry))) 6 ∷ [])) r (now (out .entry)) (now (out .exit)) ⌝ }
 {
-    let n = writing::add_field(out, n, d, envelope::isa_field(i, 7));
-    let n = writing::add_field(out, n, d, envelope::isa_field(i, 8));
-    let n = writing::add_field(out, n, d, envelope::isa_field(i, 5));
-    writing::add_field(out, n, d, envelope::isa_field(i, 6))
+    let n = writing::add_field(out, n, d, isa::isa_field(i, 7));
+    let n = writing::add_field(out, n, d, isa::isa_field(i, 8));
+    let n = writing::add_field(out, n, d, isa::isa_field(i, 5));
+    writing::add_field(out, n, d, isa::isa_field(i, 6))
 }
 
 // ISA09 to ISA13: date, time, standard, version and control number.
-fn add_isa_stamp(
-    out: &mut [u8],
-    n: usize,
-    d: Delimiters,
-    date: u32,
-    time: u32,
-    control: u32,
-) -> usize
-    ensures { λ r. ⌜ From n (fieldsOut d (padded 6 date ∷ padded 4 time ∷ ascii "U" ∷ ascii "00401" ∷ padded 9 control ∷ [])) r (now (out .entry)) (now (out .exit)) ⌝ }
+fn add_isa_stamp(out: &mut [u8], n: usize, d: Delimiters, call: Call) -> usize
+    ensures { λ r. ⌜ From n (fieldsOut d (padded 6 (call .date) ∷ padded 4 (call .time) ∷ ascii "U" ∷ ascii "00401" ∷ padded 9 (call .control) ∷ [])) r (now (out .entry)) (now (out .exit)) ⌝ }
 {
-    let n = writing::add_fixed(out, n, d, date as u64, 6);
-    let n = writing::add_fixed(out, n, d, time as u64, 4);
+    let n = writing::add_fixed(out, n, d, call.date as u64, 6);
+    let n = writing::add_fixed(out, n, d, call.time as u64, 4);
     let n = writing::add_field(out, n, d, b"U");
     let n = writing::add_field(out, n, d, b"00401");
-    writing::add_fixed(out, n, d, control as u64, 9)
+    writing::add_fixed(out, n, d, call.control as u64, 9)
 }
 
 // ISA of the response: the parties of the ISA received change places.
-pub fn add_isa(
-    out: &mut [u8],
-    n: usize,
-    d: Delimiters,
-    i: &[u8],
-    date: u32,
-    time: u32,
-    control: u32,
-) -> usize
-    ensures { λ r. ⌜ From n (segmentOut d (isaOut d (isa (now (i .entry))) date time control)) r (now (out .entry)) (now (out .exit)) ⌝ }
+pub fn add_isa(out: &mut [u8], n: usize, d: Delimiters, i: &[u8], call: Call) -> usize
+    ensures { λ r. ⌜ From n (segmentOut d (isaOut d (isa (now (i .entry))) call)) r (now (out .entry)) (now (out .exit)) ⌝ }
 {
     let n = writing::add_bytes(out, n, &rules::ISA);
     let n = add_no_information(out, n, d);
     let n = add_no_information(out, n, d);
     let n = add_isa_parties(out, n, d, i);
-    let n = add_isa_stamp(out, n, d, date, time, control);
+    let n = add_isa_stamp(out, n, d, call);
     let n = writing::add_field(out, n, d, b"0");
-    let n = writing::add_field(out, n, d, envelope::isa_field(i, 15));
+    let n = writing::add_field(out, n, d, isa::isa_field(i, 15));
     let n = writing::add_single(out, n, d, d.component);
     writing::add_byte(out, n, d.terminator)
 }
@@ -76,38 +62,23 @@ fn add_gs_parties(out: &mut [u8], n: usize, d: Delimiters, gs: &[u8]) -> usize
 }
 
 // GS04 to GS08: date, time, control number, agency and version.
-fn add_gs_stamp(
-    out: &mut [u8],
-    n: usize,
-    d: Delimiters,
-    date: u32,
-    time: u32,
-    control: u32,
-) -> usize
-    ensures { λ r. ⌜ From n (fieldsOut d (padded 8 date ∷ padded 4 time ∷ decimal control ∷ ascii "X" ∷ ascii "004010" ∷ [])) r (now (out .entry)) (now (out .exit)) ⌝ }
+fn add_gs_stamp(out: &mut [u8], n: usize, d: Delimiters, call: Call) -> usize
+    ensures { λ r. ⌜ From n (fieldsOut d (padded 8 (call .date) ∷ padded 4 (call .time) ∷ decimal (call .control) ∷ ascii "X" ∷ ascii "004010" ∷ [])) r (now (out .entry)) (now (out .exit)) ⌝ }
 {
-    let n = writing::add_fixed(out, n, d, date as u64, 8);
-    let n = writing::add_fixed(out, n, d, time as u64, 4);
-    let n = writing::add_count(out, n, d, control as u64);
+    let n = writing::add_fixed(out, n, d, call.date as u64, 8);
+    let n = writing::add_fixed(out, n, d, call.time as u64, 4);
+    let n = writing::add_count(out, n, d, call.control as u64);
     let n = writing::add_field(out, n, d, b"X");
     writing::add_field(out, n, d, b"004010")
 }
 
 // GS of an acknowledgment: the parties of the GS received change places.
-pub fn add_gs(
-    out: &mut [u8],
-    n: usize,
-    d: Delimiters,
-    gs: &[u8],
-    date: u32,
-    time: u32,
-    control: u32,
-) -> usize
-    ensures { λ r. ⌜ From n (segmentOut d (gsOut (split (d .element) (now (gs .entry))) date time control)) r (now (out .entry)) (now (out .exit)) ⌝ }
+pub fn add_gs(out: &mut [u8], n: usize, d: Delimiters, gs: &[u8], call: Call) -> usize
+    ensures { λ r. ⌜ From n (segmentOut d (gsOut (split (d .element) (now (gs .entry))) call)) r (now (out .entry)) (now (out .exit)) ⌝ }
 {
     let n = writing::add_bytes(out, n, &rules::GS);
     let n = add_gs_parties(out, n, d, gs);
-    let n = add_gs_stamp(out, n, d, date, time, control);
+    let n = add_gs_stamp(out, n, d, call);
     writing::add_byte(out, n, d.terminator)
 }
 

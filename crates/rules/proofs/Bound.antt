@@ -16,6 +16,7 @@ use Rattle.rules.specs.Segments.{Note, Place, Standing, unknown, unliste
 use Rattle.rules.specs.Sets.{Set, isST, isSE, bodyOf, trailerOf, setsOf, segmentsOf, controlOf, notesIn, setCodes, setReport}
 use Rattle.rules.specs.Groups.{Group, isGE, groupWith, groupOf, supported, edition, tableIn, setReports, groupCodes, verdict, acceptedIn, groupReport}
 use Rattle.rules.specs.Response.{fieldsOut, segmentOut, out, ak3s, block, blocks, stOut, seOut, told, transactionSet, geOut, ieaOut, respond, response}
+use Rattle.rules.specs.declared.Call.{Call}
 use Rattle.rules.specs.declared.Delimiters.{Delimiters}
 use Rattle.rules.specs.declared.Finding.{Finding}
 use Rattle.rules.proofs.Lengths.{either, padded-length, decimal-short, every-short, out-nil, out-cons, length-out-append, field-short, ak3-short, ak3s-append, ak2-short, ak5-short, ak1-short, ak9-short, isaOut-short, gsOut-short}
@@ -338,19 +339,19 @@ module _ (d : Delimiters) where
       simp (length-out-append d, out-cons d, out-nil d, length-append)
       (omega (arith, told-short st02 g, decimal-short (length (told st02 (groupReport d g)) + 1)))
 
-pub response-bound : (i : Bytes) (date time control : ℕ) → length i ≤ 65536 → length (response i date time control) < 1099511627776
+pub response-bound : (i : Bytes) (call : Call) → length i ≤ 65536 → length (response i call) < 1099511627776
 unfolding response respond geOut ieaOut fieldsOut
-response-bound i date time control h =
+response-bound i call h =
     let d = delimiters i in
     let g = groupOf (segments d i) in
     simp (length-out-append d, out-cons d, out-nil d, length-append, padded-length)
     (omega (
       arith,
-      isaOut-short d i date time control,
-      gsOut-short d (g .header) date time control,
+      isaOut-short d i call,
+      gsOut-short d (g .header) call,
       transactionSet-short d (ascii "0001") g,
       group-size d (segments d i),
       segments-size d i,
       decimal-short 1,
-      decimal-short control,
+      decimal-short (call .control),
     ))

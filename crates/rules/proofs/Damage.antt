@@ -14,17 +14,18 @@ use Rattle.rules.specs.Cutting.{Segment, isNamed, delimiters, isa, piece
 use Rattle.rules.specs.Sets.{Set, controlOf, setReport, SetReport}
 use Rattle.rules.specs.Tables.{Table}
 use Rattle.rules.specs.Groups.{Group, groupOf, isGE, sets, tableIn, setReports, groupCodes, groupReport}
-use Rattle.rules.specs.Refusals.{callRules, framed, goodST, headRules, endRules, enveloped, envelopeRules, trailerRules, groupRules, answerRules, setRules, refusalRules, refusal}
+use Rattle.rules.specs.Refusals.{callRules, hasISA, goodST, headRules, endRules, enveloped, envelopeRules, trailerRules, groupRules, answerRules, setRules, refusalRules, refusal}
 use Rattle.rules.specs.Response.{fieldsOut, segmentOut, out, block, blocks, ak1, ak9, seOut, told, transactionSet, isaOut, gsOut, geOut, ieaOut, respond, response}
 use Rattle.rules.specs.Answers.{answer, number, buffer}
 use Rattle.rules.specs.Damage.{isWhole, isInner, isFilling, Damaged, done, kept, spoiled, refilled, groupIn, setsIn, flat, rebuilt, reportIn, blocksIn, opening, closing, joined, left, Stays}
+use Rattle.rules.specs.declared.Call.{Call}
 use Rattle.rules.specs.declared.Answer.{Answer}
 use Rattle.rules.specs.declared.Answer.the-variants.{Written}
 use Rattle.rules.specs.declared.Delimiters.{Delimiters}
 use Rattle.rules.proofs.Logic.{and-left, and-right, all-head, all-tail, all-cons, all-append, all-left, all-right, all-weaken, last-snoc}
 use Rattle.rules.proofs.Cuts.{segments-out, segments-whole, out-segments, out-append}
 use Rattle.rules.proofs.SetLaws.{isOuter, Optional, Sets, no-set, more, sets-flat, outer-flat, stray-flat}
-use Rattle.rules.proofs.Envelope.{delimiters-head, framed-head, isa-head, Header, Clear, clear, Answered, made, first-cut, first-segment, rest-cut, around, group-around, last-around}
+use Rattle.rules.proofs.Envelope.{delimiters-head, hasISA-head, isa-head, Header, Clear, clear, Answered, made, first-cut, first-segment, rest-cut, around, group-around, last-around}
 
 -- 1. What damage leaves alone.
 module _ (d : Delimiters) where
@@ -131,8 +132,8 @@ module _ {i j : Bytes} {before after : List Set} (h : Spoiled i j before after) 
   same-isa : isa j ≡ isa i
   same-isa = sym (isa-head j) ∙ ap isa (h .head) ∙ isa-head i
 
-  same-framed : framed j ≡ framed i
-  same-framed = sym (framed-head j) ∙ ap framed (h .head) ∙ framed-head i
+  same-hasISA : hasISA j ≡ hasISA i
+  same-hasISA = sym (hasISA-head j) ∙ ap hasISA (h .head) ∙ hasISA-head i
 
   group-before : groupIn i ≡ record { header = h .gs; body = flat before; trailer = h .ge }
   group-before = ap groupOf (h .cut) ∙ group-around (h .is) (h .gs) (h .iea) (h .well) (h .closed)
@@ -145,15 +146,15 @@ module _ {i j : Bytes} {before after : List Set} (h : Spoiled i j before after) 
       ap (λ (d : Delimiters). groupOf (segments d j)) same-delimiters ∙ ap groupOf (h .cut′)
       ∙ group-around (h .is) (h .gs) (h .iea) well-after (h .closed)
 
-  same-rules : (date time control : ℕ) → refusalRules j date time control ≡ refusalRules i date time control
+  same-rules : (call : Call) → refusalRules j call ≡ refusalRules i call
   unfolding refusalRules headRules endRules groupRules answerRules trailerRules
-  same-rules date time control =
+  same-rules call =
       rw (
         group-after,
         group-before,
         same-delimiters,
         same-isa,
-        same-framed,
+        same-hasISA,
         h .sized,
         h .ended,
         h .cut′,
@@ -184,9 +185,9 @@ module _ {i j : Bytes} {before after : List Set} (h : Spoiled i j before after) 
   unfolding blocksIn groupReport
   blocks-after = rw (group-after, same-delimiters, sets-flat well-after)
 
-  same-opening : (date time control : ℕ) → opening j date time control ≡ opening i date time control
+  same-opening : (call : Call) → opening j call ≡ opening i call
   unfolding opening groupReport ak1
-  same-opening date time control = rw (group-after, group-before, same-delimiters, same-isa)
+  same-opening call = rw (group-after, group-before, same-delimiters, same-isa)
 
 -- 4. The bytes of a response: its opening, its blocks, and what follows them.
 out-blocks : (d : Delimiters) (rs : List SetReport) → out d (blocks rs) ≡ joined (map (λ r. out d (block r)) rs)
@@ -194,29 +195,29 @@ unfolding out blocks joined
 out-blocks d [] = refl
 out-blocks d (r ∷ rs) = rw (out-append d (block r) (blocks rs), out-blocks d rs)
 
-respond-parts : (i : Bytes) (date time control : ℕ)
-    → respond i (groupIn i) date time control ≡ opening i date time control ++ (blocks (reportIn i .sets) ++ closing i control)
+respond-parts : (i : Bytes) (call : Call)
+    → respond i (groupIn i) call ≡ opening i call ++ (blocks (reportIn i .sets) ++ closing i call)
 unfolding respond transactionSet opening closing told
-respond-parts i date time control =
+respond-parts i call =
     let r = reportIn i in
     let se = seOut (length (told (ascii "0001") r) + 1) (ascii "0001") in
     rw (
       append-assoc (blocks (r .sets)) (ak9 r ∷ []) (se ∷ []),
-      append-assoc (blocks (r .sets)) (ak9 r ∷ (se ∷ [])) (geOut 1 control ∷ (ieaOut 1 control ∷ [])),
+      append-assoc (blocks (r .sets)) (ak9 r ∷ (se ∷ [])) (geOut 1 (call .control) ∷ (ieaOut 1 (call .control) ∷ [])),
     )
 
-pub response-parts : (i : Bytes) (date time control : ℕ)
-    → response i date time control
-    ≡ out (delimiters i) (opening i date time control) ++ joined (blocksIn i) ++ out (delimiters i) (closing i control)
+pub response-parts : (i : Bytes) (call : Call)
+    → response i call
+    ≡ out (delimiters i) (opening i call) ++ joined (blocksIn i) ++ out (delimiters i) (closing i call)
 unfolding response blocksIn
-response-parts i date time control =
+response-parts i call =
     let d = delimiters i in
-    let opened = opening i date time control in
-    ap (out d) (respond-parts i date time control)
-    ∙ out-append d opened (blocks (reportIn i .sets) ++ closing i control)
-    ∙ ap (λ (l : Bytes). out d opened ++ l) (out-append d (blocks (reportIn i .sets)) (closing i control))
-    ∙ ap (λ (l : Bytes). out d opened ++ (l ++ out d (closing i control))) (out-blocks d (reportIn i .sets))
-    ∙ sym (append-assoc (out d opened) (joined (blocksIn i)) (out d (closing i control)))
+    let opened = opening i call in
+    ap (out d) (respond-parts i call)
+    ∙ out-append d opened (blocks (reportIn i .sets) ++ closing i call)
+    ∙ ap (λ (l : Bytes). out d opened ++ l) (out-append d (blocks (reportIn i .sets)) (closing i call))
+    ∙ ap (λ (l : Bytes). out d opened ++ (l ++ out d (closing i call))) (out-blocks d (reportIn i .sets))
+    ∙ sym (append-assoc (out d opened) (joined (blocksIn i)) (out d (closing i call)))
 
 -- 5. Every answered interchange and every damage to it are such a pair.
 out-last : (d : Delimiters) (bs : Bytes) (ss : List Segment) (s : Segment) → isWhole d s ≡ true → last 0 (bs ++ out d (ss ++ s ∷ [])) ≡ d .terminator
@@ -232,7 +233,7 @@ unfolding last
 last-append x [] y ys = refl
 last-append x (z ∷ zs) y ys = last-append z zs y ys
 
-module _ (i : Bytes) (date time control : ℕ) (c : Clear i date time control) where
+module _ (i : Bytes) (call : Call) (c : Clear i call) where
   abbrev iea : Segment
   iea = last [] (segments (delimiters i) i)
 
@@ -241,7 +242,7 @@ module _ (i : Bytes) (date time control : ℕ) (c : Clear i date time control) w
 
   cut-before : segments (delimiters i) i ≡ getD (segments (delimiters i) i) 0 [] ∷ inside (setsIn i)
   cut-before =
-      let a = made i date time control c in
+      let a = made i call c in
       a .parts .whole
       ∙ ap (λ (l : List Segment). getD (segments (delimiters i) i) 0 [] ∷ (groupIn i .header ∷ (l ++ (listed (groupIn i .trailer) ++ iea ∷ [])))) (a .body)
 
@@ -324,8 +325,8 @@ module _ (i : Bytes) (date time control : ℕ) (c : Clear i date time control) w
       gs = groupIn i .header;
       iea = iea;
       ge = groupIn i .trailer;
-      closed = made i date time control c .parts .closed;
-      well = made i date time control c .cut;
+      closed = made i call c .parts .closed;
+      well = made i call c .cut;
       damaged = damaged;
       cut = cut-before;
       cut′ = cut-after;
@@ -333,38 +334,38 @@ module _ (i : Bytes) (date time control : ℕ) (c : Clear i date time control) w
 
 -- 6. The demand. Whatever the buffers: an interchange is answered; any of its sets get other segments between header and trailer; where the
 -- result has at most 65,536 bytes and its response fits the buffer, it is answered, and what was not touched stays.
-answered-clear : (i lent : Bytes) (date time control : ℕ) → number (answer i (length lent) date time control) ≡ 0 → refusal i date time control ≡ 0
+answered-clear : (i lent : Bytes) (call : Call) → number (answer i (length lent) call) ≡ 0 → refusal i call ≡ 0
 unfolding answer
-answered-clear i lent date time control e = go (eqb (refusal i date time control) 0) refl
+answered-clear i lent call e = go (eqb (refusal i call) 0) refl
   where
-    go : (b : Bool) → eqb (refusal i date time control) 0 ≡ b → refusal i date time control ≡ 0
-    go true p = eqb-true (refusal i date time control) 0 p
+    go : (b : Bool) → eqb (refusal i call) 0 ≡ b → refusal i call ≡ 0
+    go true p = eqb-true (refusal i call) 0 p
     go false p = rw p at e
 
-answer-written : (i lent : Bytes) (date time control : ℕ) → refusal i date time control ≡ 0
-    → length (response i date time control) ≤ length lent → answer i (length lent) date time control ≡ Written (length (response i date time control))
+answer-written : (i lent : Bytes) (call : Call) → refusal i call ≡ 0
+    → length (response i call) ≤ length lent → answer i (length lent) call ≡ Written (length (response i call))
 unfolding answer
-answer-written i lent date time control e fits =
-    rw (e, le-leb (length (response i date time control)) (length lent) fits)
+answer-written i lent call e fits =
+    rw (e, le-leb (length (response i call)) (length lent) fits)
 
-pub one-spoiled : (i lent : Bytes) (date time control : ℕ)
-    → number (answer i (length lent) date time control) ≡ 0
+pub one-spoiled : (i lent : Bytes) (call : Call)
+    → number (answer i (length lent) call) ≡ 0
     → (after : List Set) → Damaged (delimiters i) (setsIn i) after
     → length (rebuilt i after) ≤ 65536
-    → (lent′ : Bytes) → length (response (rebuilt i after) date time control) ≤ length lent′
-    → Stays i (rebuilt i after) lent′ after date time control
+    → (lent′ : Bytes) → length (response (rebuilt i after) call) ≤ length lent′
+    → Stays i (rebuilt i after) lent′ after call
 unfolding refusal pair
-one-spoiled i lent date time control e after damaged short lent′ fits =
-    let c = clear i date time control (answered-clear i lent date time control e) in
-    let s = pair i date time control c after damaged short in
+one-spoiled i lent call e after damaged short lent′ fits =
+    let c = clear i call (answered-clear i lent call e) in
+    let s = pair i call c after damaged short in
     let j = rebuilt i after in
-    let zero : refusal j date time control ≡ 0 = ap first (same-rules s date time control) ∙ answered-clear i lent date time control e in
+    let zero : refusal j call ≡ 0 = ap first (same-rules s call) ∙ answered-clear i lent call e in
     record {
-      answered = ap number (answer-written j lent′ date time control zero fits);
+      answered = ap number (answer-written j lent′ call zero fits);
       written =
-          ap (λ (a : Answer). buffer a (response j date time control) lent′) (answer-written j lent′ date time control zero fits)
-          ∙ ap (λ (l : Bytes). l ++ drop (length (response j date time control)) lent′) (response-parts j date time control)
-          ∙ rw (same-opening s date time control, same-delimiters s);
+          ap (λ (a : Answer). buffer a (response j call) lent′) (answer-written j lent′ call zero fits)
+          ∙ ap (λ (l : Bytes). l ++ drop (length (response j call)) lent′) (response-parts j call)
+          ∙ rw (same-opening s call, same-delimiters s);
       blocks = blocks-after s;
       untouched = λ k x u. rw (blocks-after s, blocks-before s) (block-stays (delimiters i) (tableIn (groupIn i .header)) damaged [] k x u);
       received = same-received s;

@@ -15,8 +15,9 @@ use Rattle.rules.specs.Cutting.{Segment, field, isNamed, delimiters, mar
 use Rattle.rules.specs.Numbers.{digits}
 use Rattle.rules.specs.Sets.{Set, isST, setsOf, stray}
 use Rattle.rules.specs.Groups.{Group, groupOf, groupWith, isGE, sets}
-use Rattle.rules.specs.Refusals.{callRules, framed, plain, distinct, goodMarks, goodISA, headRules, endRules, isEnvelope, enveloped, envelopeRules, trailerRules, groupRules, answerRules, setRules, refusalRules, refusal}
+use Rattle.rules.specs.Refusals.{callRules, hasISA, plain, distinct, goodMarks, goodISA, headRules, endRules, isEnvelope, enveloped, envelopeRules, trailerRules, groupRules, answerRules, setRules, refusalRules, refusal}
 use Rattle.rules.specs.Damage.{flat, free}
+use Rattle.rules.specs.declared.Call.{Call}
 use Rattle.rules.specs.declared.Delimiters.{Delimiters}
 use Rattle.rules.proofs.Logic.{and-left, and-right, or-left, or-right, both-left, both-right, all-head, all-tail, all-cons, all-append, all-weaken, same→eq, front-last, front-snoc, last-snoc, last-all, silent}
 use Rattle.rules.proofs.Cuts.{pieces-step}
@@ -46,9 +47,9 @@ module _ (i : Bytes) where
         separated-head b as′ (all-tail (λ a. ltb a 106) a as′ t),
       )
 
-  pub framed-head : framed (take 106 i) ≡ framed i
-  unfolding framed
-  framed-head =
+  pub hasISA-head : hasISA (take 106 i) ≡ hasISA i
+  unfolding hasISA
+  hasISA-head =
       rw (take-take 3 106 i (lit≤ tt), getD-take 106 i 3 0 (lit< tt), separated-head (getD i 3 0) separators separators-low)
 
   fields-head : (n : ℕ) (places : List ℕ) → all (λ a. leb a 106) places ≡ true → fieldsAt n places (take 106 i) ≡ fieldsAt n places i
@@ -138,29 +139,29 @@ marks-differ d e =
     (or-left et false (or-right ec (et || false) first), or-left ct false (not-true (ct || false) second))
 
 -- none of the refusals 1 to 13
-pub record Clear (i : Bytes) (date time control : ℕ) : Type 0 where
-  pub call : first (callRules date time control) ≡ 0
+pub record Clear (i : Bytes) (call : Call) : Type 0 where
+  pub numbers : first (callRules call) ≡ 0
   pub header : Header i
   pub frame : enveloped (segments (delimiters i) i) ≡ true
   pub outside : stray false (groupOf (segments (delimiters i) i) .body) ≡ false
 
-pub clear : (i : Bytes) (date time control : ℕ) → refusal i date time control ≡ 0 → Clear i date time control
-unfolding refusal refusalRules callRules headRules endRules envelopeRules trailerRules groupRules answerRules setRules framed goodMarks goodISA first
-clear i date time control e =
+pub clear : (i : Bytes) (call : Call) → refusal i call ≡ 0 → Clear i call
+unfolding refusal refusalRules callRules headRules endRules envelopeRules trailerRules groupRules answerRules setRules hasISA goodMarks goodISA first
+clear i call e =
     let d = delimiters i in
     let n = length i in
-    let r = silent (refusalRules i date time control) tt e in
+    let r = silent (refusalRules i call) tt e in
     let sized = not-false (between 106 65536 n) (r .1 .0) in
     let differ = marks-differ d (and-left (distinct (marks d)) (all plain (marks d)) (not-false (goodMarks (marks d)) (r .1 .1 .1 .0))) in
     let v = all (all (valid d)) (isa i) in
     let nine = digits 9 9 (field (isa i) 13) in
     let pti = member (field (isa i) 15) (ascii "P" ∷ ascii "T" ∷ ascii "I" ∷ []) in
     record {
-      call = rw (r .0);
+      numbers = rw (r .0);
       header = record {
         long = leb-true 106 n (and-left (leb 106 n) (leb n 65536) sized);
         short = leb-true n 65536 (and-right (leb 106 n) (leb n 65536) sized);
-        separated = and-right (same (take 3 i) (ascii "ISA")) (all (λ at. eqb (getD i at 0) (getD i 3 0)) separators) (not-false (framed i) (r .1 .1 .0));
+        separated = and-right (same (take 3 i) (ascii "ISA")) (all (λ at. eqb (getD i at 0) (getD i 3 0)) separators) (not-false (hasISA i) (r .1 .1 .0));
         fields = and-left v nine (and-left (v && nine) pti (not-false (goodISA d (isa i)) (r .1 .1 .1 .1 .0)));
         element≢ = differ .0;
         component≢ = differ .1;
@@ -252,9 +253,9 @@ pub record Answered (i : Bytes) : Type 0 where
   pub body : groupOf (segments (delimiters i) i) .body ≡ flat (sets (groupOf (segments (delimiters i) i)))
   pub cut : Sets (sets (groupOf (segments (delimiters i) i)))
 
-pub made : (i : Bytes) (date time control : ℕ) → Clear i date time control → Answered i
+pub made : (i : Bytes) (call : Call) → Clear i call → Answered i
 unfolding enveloped
-made i date time control c =
+made i call c =
     let ss = segments (delimiters i) i in
     let g = groupOf ss in
     let gs = isNamed (ascii "GS") (getD ss 1 []) in

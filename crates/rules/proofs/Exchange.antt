@@ -6,6 +6,7 @@ use Rattle.rules.specs.Base.{Bytes, ascii}
 use Rattle.rules.specs.Response.{response}
 use Rattle.rules.specs.Answers.{Outcome, outcome, answer, buffer}
 use Rattle.rules.specs.Program.{printed}
+use Rattle.rules.specs.declared.Call.{Call}
 use Rattle.rules.proofs.Open.{everything}
 use Prim.Native.Nat.{ℕ}
 
@@ -26,11 +27,15 @@ sent =
     ++ ascii "AK3*L11*3**8~AK4*1*127*2~AK5*R*4*5~"
     ++ ascii "AK9*P*2*2*1~SE*14*0001~GE*1*77~IEA*1*000000077~"
 
+-- the caller's numbers of the printed exchange
+abbrev pub sampleCall : Call
+sampleCall = record { date = 20240315; time = 930; control = 77 }
+
 -- the outcome of the printed call on a buffer of so many bytes 7
 unfoldable pub exchange : ℕ → Outcome
 exchange room =
-    let a = answer received room 20240315 930 77 in
-    outcome a (buffer a (response received 20240315 930 77) (replicate room 7))
+    let a = answer received room sampleCall in
+    outcome a (buffer a (response received sampleCall) (replicate room 7))
 
 -- the response has 334 bytes: in a longer buffer the rest is as lent
 pub answered : exchange 400 ≡ record { number = 0; size = 334; buffer = sent ++ replicate 66 7 }

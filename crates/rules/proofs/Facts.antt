@@ -18,13 +18,14 @@ use Rattle.rules.specs.Groups.{Group, groupOf, sets, tableIn, setReports
 use Rattle.rules.specs.Refusals.{callRules, headRules, endRules, envelopeRules, trailerRules, groupRules, answerRules, setRules, refusalRules, refusal}
 use Rattle.rules.specs.Response.{ak5, seOut, told, transactionSet}
 use Rattle.rules.specs.Answers.{Allowed, answer, buffer, outcome}
+use Rattle.rules.specs.declared.Call.{Call}
 use Rattle.rules.specs.declared.Answer.{Answer}
 use Rattle.rules.specs.declared.Delimiters.{Delimiters}
 use Rattle.rules.proofs.Logic.{and-left, and-right, last-snoc, orElse, numbered, first-append, both-left, both-right}
 
 -- 1. Two allowed outcomes coincide: the answer, and with it number and length, and every byte of the buffer.
-module _ (i lent : Bytes) (date time control : ℕ) (a₁ a₂ : Answer) (l₁ l₂ : Bytes)
-    (p : Allowed i lent date time control a₁ l₁) (q : Allowed i lent date time control a₂ l₂) where
+module _ (i lent : Bytes) (call : Call) (a₁ a₂ : Answer) (l₁ l₂ : Bytes)
+    (p : Allowed i lent call a₁ l₁) (q : Allowed i lent call a₂ l₂) where
   pub once : outcome a₁ l₁ ≡ outcome a₂ l₂
   unfolding Allowed
   once = rw (p .1, q .1, p .0, q .0)
@@ -80,9 +81,9 @@ first-low [] e = omega arith
 first-low ((true ⇒ n) ∷ rs) e = leb-true n 13 (and-left (leb n 13) (low rs) e)
 first-low ((false ⇒ n) ∷ rs) e = first-low rs (and-right (leb n 13) (low rs) e)
 
-pub refusal-low : (i : Bytes) (date time control : ℕ) → refusal i date time control ≤ 13
+pub refusal-low : (i : Bytes) (call : Call) → refusal i call ≤ 13
 unfolding refusal refusalRules callRules headRules endRules envelopeRules trailerRules groupRules answerRules setRules
-refusal-low i date time control = first-low (refusalRules i date time control) refl
+refusal-low i call = first-low (refusalRules i call) refl
 
 -- 6. The refusal is that of the first block of rules that has one.
 unfoldable pub firstOf : List ℕ → ℕ
@@ -105,13 +106,13 @@ first-in-order (rs ∷ rss) t =
     first-append rs (inOrder rss) (both-left (numbered rs) (allNumbered rss) t)
     ∙ ap (orElse (first rs) (eqb (first rs) 0)) (first-in-order rss (both-right (numbered rs) (allNumbered rss) t))
 
-module _ (i : Bytes) (date time control : ℕ) where
+module _ (i : Bytes) (call : Call) where
   abbrev ruleBlocks : List (List Rule)
   ruleBlocks =
       let d = delimiters i in
       let ss = segments d i in
       let g = groupOf ss in
-      callRules date time control
+      callRules call
       ∷ (headRules i
       ∷ (endRules i
       ∷ (envelopeRules ss
@@ -121,7 +122,7 @@ module _ (i : Bytes) (date time control : ℕ) where
       ∷ (setRules d g
       ∷ [])))))))
 
-  rules-in-order : refusalRules i date time control ≡ inOrder ruleBlocks
+  rules-in-order : refusalRules i call ≡ inOrder ruleBlocks
   unfolding refusalRules
   rules-in-order = simp (append-assoc, append-nil)
 
@@ -129,13 +130,13 @@ module _ (i : Bytes) (date time control : ℕ) where
   unfolding callRules headRules endRules envelopeRules trailerRules groupRules answerRules setRules
   blocks-numbered = tt
 
-pub refusal-blocks : (i : Bytes) (date time control : ℕ)
+pub refusal-blocks : (i : Bytes) (call : Call)
     → let d = delimiters i in
     let ss = segments d i in
     let g = groupOf ss in
-    refusal i date time control
+    refusal i call
     ≡ firstOf (
-    first (callRules date time control)
+    first (callRules call)
     ∷ (first (headRules i)
     ∷ (first (endRules i)
     ∷ (first (envelopeRules ss)
@@ -145,5 +146,5 @@ pub refusal-blocks : (i : Bytes) (date time control : ℕ)
     ∷ (first (setRules d g)
     ∷ []))))))))
 unfolding refusal
-refusal-blocks i date time control =
-    ap first (rules-in-order i date time control) ∙ first-in-order (ruleBlocks i date time control) (blocks-numbered i date time control)
+refusal-blocks i call =
+    ap first (rules-in-order i call) ∙ first-in-order (ruleBlocks i call) (blocks-numbered i call)

@@ -13,6 +13,7 @@ use Rattle.rules.specs.Segments.{Note}
 use Rattle.rules.specs.Sets.{SetReport, accepted}
 use Rattle.rules.specs.Groups.{GroupReport}
 use Rattle.rules.specs.Response.{fieldsOut, segmentOut, out, ak4, ak3, ak3s, ak2, ak5, block, blocks, ak1, ak9, stOut, seOut, told, transactionSet, isaOut, gsOut}
+use Rattle.rules.specs.declared.Call.{Call}
 use Rattle.rules.specs.declared.Delimiters.{Delimiters}
 use Rattle.rules.specs.declared.Finding.{Finding}
 
@@ -141,16 +142,16 @@ module _ (d : Delimiters) where
   fieldsAt-short start (e ∷ es) i zero = simp (length-drop, length-take) (omega arith)
   fieldsAt-short start (e ∷ es) i (suc n) = fieldsAt-short (e + 1) es i n
 
-  pub isaOut-short : (i : Bytes) (date time control : ℕ) → length (segmentOut d (isaOut d (isa i) date time control)) ≤ 80 + 5 * length i
+  pub isaOut-short : (i : Bytes) (call : Call) → length (segmentOut d (isaOut d (isa i) call)) ≤ 80 + 5 * length i
   unfolding isaOut fieldsOut isa
-  isaOut-short i date time control =
+  isaOut-short i call =
       let short = fieldsAt-short 0 separators i in
       simp (length-append, padded-length) (omega (arith, short 5, short 6, short 7, short 8, short 15))
 
-  pub gsOut-short : (gs : Segment) (date time control : ℕ) → length (segmentOut d (gsOut gs date time control)) ≤ 60 + 2 * length (segmentOut d gs)
+  pub gsOut-short : (gs : Segment) (call : Call) → length (segmentOut d (gsOut gs call)) ≤ 60 + 2 * length (segmentOut d gs)
   unfolding gsOut fieldsOut
-  gsOut-short gs date time control =
-      simp (length-append, padded-length) (omega (arith, field-short gs 2, field-short gs 3, decimal-short control))
+  gsOut-short gs call =
+      simp (length-append, padded-length) (omega (arith, field-short gs 2, field-short gs 3, decimal-short (call .control)))
 
   -- 5. Segments are no more than their bytes.
   abbrev Counted : List Segment → Type 0

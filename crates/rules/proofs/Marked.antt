@@ -10,6 +10,7 @@ use Rattle.rules.specs.Groups.{groupOf, groupReport}
 use Rattle.rules.specs.Refusals.{refusal}
 use Rattle.rules.specs.Response.{out, blocks}
 use Rattle.rules.proofs.Open.{everything}
+use Rattle.rules.proofs.Exchange.{sampleCall}
 
 -- what stands after ST*990*0001~, and what is answered after AK2*990*0001~
 infix 20 _gives_
@@ -50,7 +51,7 @@ answered i = let d = delimiters i in out d (blocks (groupReport d (groupOf (segm
 -- the interchange is answered, and the set's block is the row's
 unfoldable pub isRight : Marked → Bool
 isRight (rest gives block) =
-    eqb (refusal (around rest) 20240315 930 77) 0
+    eqb (refusal (around rest) sampleCall) 0
     && same (answered (around rest)) (ascii "AK2*990*0001~" ++ ascii block)
 
 pub all-marked : all isRight marked ≡ true

@@ -10,6 +10,7 @@ use Rattle.rules.specs.Groups.{groupOf, groupReport}
 use Rattle.rules.specs.Refusals.{refusal}
 use Rattle.rules.specs.Response.{out, blocks, ak9}
 use Rattle.rules.proofs.Open.{everything}
+use Rattle.rules.proofs.Exchange.{sampleCall}
 
 -- what stands between GS and IEA, and what is answered from the first AK2 to AK9
 infix 20 _answers_
@@ -56,7 +57,7 @@ answered i =
 
 unfoldable pub isRight : Group → Bool
 isRight (group answers told) =
-    eqb (refusal (around group) 20240315 930 77) 0 && same (answered (around group)) (ascii told)
+    eqb (refusal (around group) sampleCall) 0 && same (answered (around group)) (ascii told)
 
 pub all-right : all isRight groups ≡ true
 unfolding everything groups around answered isRight

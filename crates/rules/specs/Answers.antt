@@ -9,16 +9,17 @@ use Rattle.rules.specs.Refusals.{refusal}
 use Rattle.rules.specs.Response.{response}
 use Rattle.rules.specs.declared.Answer.{Answer}
 use Rattle.rules.specs.declared.Answer.the-variants.{Written, Refused, TooLong}
+use Rattle.rules.specs.declared.Call.{Call}
 
 -- a response in a buffer with so much room; 14 where it does not fit
 abbrev pub fitting : Bytes → ℕ → Answer
 fitting r room = if leb (length r) room then Written (length r) else TooLong (length r)
 
 -- the answer to an interchange
-unfoldable pub answer : Bytes → ℕ → ℕ → ℕ → ℕ → Answer
-answer i room date time control =
-    let n = refusal i date time control in
-    let r = response i date time control in
+unfoldable pub answer : Bytes → ℕ → Call → Answer
+answer i room call =
+    let n = refusal i call in
+    let r = response i call in
     if eqb n 0 then fitting r room else Refused n
 
 -- the buffer after an answer: the response at its start where it was written, and every other byte as lent
@@ -49,12 +50,12 @@ abbrev pub outcome : Answer → Bytes → Outcome
 outcome a left = record { number = number a; size = size a; buffer = left }
 
 -- what a call may answer, and what it may leave in the buffer
-unfoldable pub Allowed : Bytes → Bytes → ℕ → ℕ → ℕ → Answer → Bytes → Type 0
-Allowed i lent date time control a left =
-    (a ≡ answer i (length lent) date time control) × (left ≡ buffer a (response i date time control) lent)
+unfoldable pub Allowed : Bytes → Bytes → Call → Answer → Bytes → Type 0
+Allowed i lent call a left =
+    (a ≡ answer i (length lent) call) × (left ≡ buffer a (response i call) lent)
 
 -- the outcome of a call
-unfoldable pub called : Bytes → Bytes → ℕ → ℕ → ℕ → Outcome
-called i lent date time control =
-    let a = answer i (length lent) date time control in
-    outcome a (buffer a (response i date time control) lent)
+unfoldable pub called : Bytes → Bytes → Call → Outcome
+called i lent call =
+    let a = answer i (length lent) call in
+    outcome a (buffer a (response i call) lent)

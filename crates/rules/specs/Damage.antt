@@ -13,6 +13,7 @@ use Rattle.rules.specs.Groups.{Group, groupOf, sets, tableIn, setReports
 use Rattle.rules.specs.Refusals.{isEnvelope}
 use Rattle.rules.specs.Response.{out, block, ak1, ak9, stOut, seOut, told, isaOut, gsOut, geOut, ieaOut, response}
 use Rattle.rules.specs.Answers.{answer, number, buffer}
+use Rattle.rules.specs.declared.Call.{Call}
 use Rattle.rules.specs.declared.Delimiters.{Delimiters}
 
 -- 1. The damage.
@@ -72,20 +73,20 @@ unfoldable pub blocksIn : Bytes → List Bytes
 blocksIn i = map (λ r. out (delimiters i) (block r)) (reportIn i .sets)
 
 -- the segments of the response before the first block, and those after the last one
-unfoldable pub opening : Bytes → ℕ → ℕ → ℕ → List Segment
-opening i date time control =
-    isaOut (delimiters i) (isa i) date time control
-    ∷ (gsOut (groupIn i .header) date time control
+unfoldable pub opening : Bytes → Call → List Segment
+opening i call =
+    isaOut (delimiters i) (isa i) call
+    ∷ (gsOut (groupIn i .header) call
     ∷ (stOut (ascii "0001")
     ∷ (ak1 (reportIn i)
     ∷ [])))
 
-unfoldable pub closing : Bytes → ℕ → List Segment
-closing i control =
+unfoldable pub closing : Bytes → Call → List Segment
+closing i call =
     ak9 (reportIn i)
     ∷ (seOut (length (told (ascii "0001") (reportIn i)) + 1) (ascii "0001")
-    ∷ (geOut 1 control
-    ∷ (ieaOut 1 control
+    ∷ (geOut 1 (call .control)
+    ∷ (ieaOut 1 (call .control)
     ∷ [])))
 
 unfoldable pub joined : List Bytes → Bytes
@@ -93,17 +94,17 @@ joined [] = []
 joined (b ∷ bs) = b ++ joined bs
 
 -- the bytes of the buffer after a call
-abbrev pub left : Bytes → Bytes → ℕ → ℕ → ℕ → Bytes
-left i lent date time control = buffer (answer i (length lent) date time control) (response i date time control) lent
+abbrev pub left : Bytes → Bytes → Call → Bytes
+left i lent call = buffer (answer i (length lent) call) (response i call) lent
 
 -- j, which is i with the sets after, is answered into the buffer lent. The buffer then has the opening of the response to i, the blocks,
 -- the closing and what was lent; the blocks are what the definitions say of the sets after, and an untouched set has its old block at its
 -- old place; the number of sets received and the group's codes are the old ones.
-pub record Stays (i j lent : Bytes) (after : List Set) (date time control : ℕ) : Type 0 where
-  pub answered : number (answer j (length lent) date time control) ≡ 0
-  pub written : left j lent date time control
-      ≡ out (delimiters i) (opening i date time control) ++ joined (blocksIn j) ++ out (delimiters i) (closing j control)
-      ++ drop (length (response j date time control)) lent
+pub record Stays (i j lent : Bytes) (after : List Set) (call : Call) : Type 0 where
+  pub answered : number (answer j (length lent) call) ≡ 0
+  pub written : left j lent call
+      ≡ out (delimiters i) (opening i call) ++ joined (blocksIn j) ++ out (delimiters i) (closing j call)
+      ++ drop (length (response j call)) lent
   pub blocks : blocksIn j ≡ map (λ r. out (delimiters i) (block r)) (setReports (delimiters i) (tableIn (groupIn i .header)) [] after)
   pub untouched : (k : ℕ) (d : Set) → getD after k d ≡ getD (setsIn i) k d → getD (blocksIn j) k [] ≡ getD (blocksIn i) k []
   pub received : reportIn j .received ≡ reportIn i .received

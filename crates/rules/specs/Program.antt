@@ -10,6 +10,7 @@ use Rattle.rules.specs.Base.{Bytes, ascii, if_then_else_}
 use Rattle.rules.specs.Numbers.{digits, value, decimal}
 use Rattle.rules.specs.Response.{response}
 use Rattle.rules.specs.Answers.{answer}
+use Rattle.rules.specs.declared.Call.{Call}
 use Rattle.rules.specs.declared.Answer.{Answer}
 use Rattle.rules.specs.declared.Answer.the-variants.{Written, Refused, TooLong}
 
@@ -33,6 +34,10 @@ unfoldable pub isCall : Bytes → Bool
 isCall l =
     digits 8 8 (take 8 l) && eqb (getD l 8 0) 32 && digits 4 4 (slice 9 13 l) && eqb (getD l 13 0) 32 && digits 1 9 (drop 14 l)
 
+-- the numbers on such a line
+abbrev pub callOn : Bytes → Call
+callOn l = record { date = value (take 8 l); time = value (slice 9 13 l); control = value (drop 14 l) }
+
 unfoldable pub refusedText : ℕ → Bytes
 refusedText n = ascii "refused " ++ decimal n ++ ascii "\n"
 
@@ -45,11 +50,8 @@ printedAs (TooLong n) r = refusedText 14
 -- what is printed for an interchange under a first line, with so much room for the response
 unfoldable pub printedCall : Input → ℕ → Bytes
 printedCall i room =
-    let date = value (take 8 (i .line)) in
-    let time = value (slice 9 13 (i .line)) in
-    let control = value (drop 14 (i .line)) in
-    let a = answer (i .interchange) room date time control in
-    let r = response (i .interchange) date time control in
+    let a = answer (i .interchange) room (callOn (i .line)) in
+    let r = response (i .interchange) (callOn (i .line)) in
     if isCall (i .line) then printedAs a r else refusedText 1
 
 abbrev pub printedFor : Option Input → ℕ → Bytes

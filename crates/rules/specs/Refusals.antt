@@ -9,19 +9,22 @@ use Rattle.rules.specs.Cutting.{Segment, field, isNamed, delimiters, mar
 use Rattle.rules.specs.Numbers.{digits, declares, isDay, isDate, isTime}
 use Rattle.rules.specs.Sets.{Set, stray}
 use Rattle.rules.specs.Groups.{Group, groupOf, sets}
+use Rattle.rules.specs.declared.Call.{Call}
 use Rattle.rules.specs.declared.Delimiters.{Delimiters}
 
 -- 1: the caller's numbers
-unfoldable pub goodCall : ℕ → ℕ → ℕ → Bool
-goodCall date time control =
-    (leb date 99991231 && isDay date) && (leb (time / 100) 23 && leb (time % 100) 59) && between 1 999999999 control
+unfoldable pub goodCall : Call → Bool
+goodCall call =
+    (leb (call .date) 99991231 && isDay (call .date))
+    && (leb (call .time / 100) 23 && leb (call .time % 100) 59)
+    && between 1 999999999 (call .control)
 
-unfoldable pub callRules : ℕ → ℕ → ℕ → List Rule
-callRules date time control = (not (goodCall date time control) ⇒ 1) ∷ []
+unfoldable pub callRules : Call → List Rule
+callRules call = (not (goodCall call) ⇒ 1) ∷ []
 
 -- 3: ISA, and a separator at each of its places
-unfoldable pub framed : Bytes → Bool
-framed i = same (take 3 i) (ascii "ISA") && all (λ at. eqb (getD i at 0) (getD i 3 0)) separators
+unfoldable pub hasISA : Bytes → Bool
+hasISA i = same (take 3 i) (ascii "ISA") && all (λ at. eqb (getD i at 0) (getD i 3 0)) separators
 
 -- 4: no letter, digit or space, and no two the same
 abbrev pub plain : ℕ → Bool
@@ -43,7 +46,7 @@ goodISA d s =
 unfoldable pub headRules : Bytes → List Rule
 headRules i =
     (not (between 106 65536 (length i)) ⇒ 2) ∷
-    (not (framed i) ⇒ 3) ∷
+    (not (hasISA i) ⇒ 3) ∷
     (not (goodMarks (marks (delimiters i))) ⇒ 4) ∷
     (not (goodISA (delimiters i) (isa i)) ⇒ 5) ∷
     []
@@ -106,15 +109,15 @@ setRules d g =
     []
 
 -- all of them, in the order of checking
-unfoldable pub refusalRules : Bytes → ℕ → ℕ → ℕ → List Rule
-refusalRules i date time control =
+unfoldable pub refusalRules : Bytes → Call → List Rule
+refusalRules i call =
     let d = delimiters i in
     let ss = segments d i in
     let g = groupOf ss in
-    callRules date time control ++ headRules i ++ endRules i
+    callRules call ++ headRules i ++ endRules i
     ++ envelopeRules ss ++ trailerRules (last [] ss) 1 (field (isa i) 13)
     ++ groupRules d g ++ answerRules g ++ setRules d g
 
 -- the number of the refusal, 0 for none of 1 to 13
-unfoldable pub refusal : Bytes → ℕ → ℕ → ℕ → ℕ
-refusal i date time control = first (refusalRules i date time control)
+unfoldable pub refusal : Bytes → Call → ℕ
+refusal i call = first (refusalRules i call)

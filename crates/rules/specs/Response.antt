@@ -10,6 +10,7 @@ use Rattle.rules.specs.Numbers.{padded, decimal}
 use Rattle.rules.specs.Segments.{Note}
 use Rattle.rules.specs.Sets.{SetReport, accepted}
 use Rattle.rules.specs.Groups.{Group, groupOf, GroupReport, groupReport}
+use Rattle.rules.specs.declared.Call.{Call}
 use Rattle.rules.specs.declared.Delimiters.{Delimiters}
 use Rattle.rules.specs.declared.Finding.{Finding}
 
@@ -80,16 +81,16 @@ unfoldable pub transactionSet : Bytes → GroupReport → List Segment
 transactionSet st02 g = told st02 g ++ seOut (length (told st02 g) + 1) st02 ∷ []
 
 -- 4. The envelope: the parties change places.
-unfoldable pub isaOut : Delimiters → Segment → ℕ → ℕ → ℕ → Segment
-isaOut d received date time control =
+unfoldable pub isaOut : Delimiters → Segment → Call → Segment
+isaOut d received call =
     ascii "ISA" ∷ ascii "00" ∷ ascii "          " ∷ ascii "00" ∷ ascii "          "
     ∷ field received 7 ∷ field received 8 ∷ field received 5 ∷ field received 6
-    ∷ padded 6 date ∷ padded 4 time ∷ ascii "U" ∷ ascii "00401" ∷ padded 9 control ∷ ascii "0"
+    ∷ padded 6 (call .date) ∷ padded 4 (call .time) ∷ ascii "U" ∷ ascii "00401" ∷ padded 9 (call .control) ∷ ascii "0"
     ∷ field received 15 ∷ (d .component ∷ []) ∷ []
 
-unfoldable pub gsOut : Segment → ℕ → ℕ → ℕ → Segment
-gsOut gs date time control =
-    ascii "GS" ∷ ascii "FA" ∷ field gs 3 ∷ field gs 2 ∷ padded 8 date ∷ padded 4 time ∷ decimal control
+unfoldable pub gsOut : Segment → Call → Segment
+gsOut gs call =
+    ascii "GS" ∷ ascii "FA" ∷ field gs 3 ∷ field gs 2 ∷ padded 8 (call .date) ∷ padded 4 (call .time) ∷ decimal (call .control)
     ∷ ascii "X" ∷ ascii "004010" ∷ []
 
 unfoldable pub geOut : ℕ → ℕ → Segment
@@ -99,15 +100,15 @@ unfoldable pub ieaOut : ℕ → ℕ → Segment
 ieaOut n control = ascii "IEA" ∷ decimal n ∷ padded 9 control ∷ []
 
 -- 5. The whole response to an interchange.
-unfoldable pub respond : Bytes → Group → ℕ → ℕ → ℕ → List Segment
-respond i g date time control =
+unfoldable pub respond : Bytes → Group → Call → List Segment
+respond i g call =
     let d = delimiters i in
-    isaOut d (isa i) date time control
-    ∷ (gsOut (g .header) date time control
+    isaOut d (isa i) call
+    ∷ (gsOut (g .header) call
     ∷ (transactionSet (ascii "0001") (groupReport d g)
-    ++ geOut 1 control ∷ ieaOut 1 control ∷ []))
+    ++ geOut 1 (call .control) ∷ ieaOut 1 (call .control) ∷ []))
 
-unfoldable pub response : Bytes → ℕ → ℕ → ℕ → Bytes
-response i date time control =
+unfoldable pub response : Bytes → Call → Bytes
+response i call =
     let d = delimiters i in
-    out d (respond i (groupOf (segments d i)) date time control)
+    out d (respond i (groupOf (segments d i)) call)

@@ -1,10 +1,8 @@
--- "Tables": what a table is, what a table given as rows of numbers means, and the two tables of document 01.
+-- "Tables": what a table is, and the two tables of document 01.
 use Prim.Native.Nat.{ℕ}
 use mathlib.Core.Bool.{Bool, true, false}
 use mathlib.Core.List.{List, [], _∷_}
 use mathlib.Core.Option.{Option, none, some}
-use lib.Dec.{eqb}
-use lib.ListN.{take, drop, getD}
 use Rattle.rules.specs.Base.{Bytes, ascii, same, if_then_else_}
 use Rattle.rules.specs.declared.Kind.{Kind}
 use Rattle.rules.specs.declared.Kind.the-variants.{AN, ID, N0, DT, TM}
@@ -38,80 +36,7 @@ pub record Table : Type 0 where
   pub directory : List Bytes
   pub entries : List Entry
 
--- 1. A table as rows of six numbers. The first number tells what a row is:
---    1  a segment:      its id as three numbers (the third 0 where it has two bytes), 1 where it is mandatory, how often it may stand
---    2  its element:    reference number, 1 where it is mandatory, type (0 AN, 1 ID, 2 N0, 3 DT, 4 TM), shortest, longest
---    3  the element's code value: its bytes, then 0
---    4  a syntax note:  relation (0 P, 1 R, 2 E, 3 C, 4 L), and its places, then 0
-abbrev pub column : List ℕ → ℕ → ℕ
-column r k = getD r k 0
-
-abbrev pub isRow : ℕ → List ℕ → Bool
-isRow what r = eqb (column r 0) what
-
--- the numbers before the first 0
-unfoldable pub filled : List ℕ → List ℕ
-filled [] = []
-filled (x ∷ xs) = let r = filled xs in if eqb x 0 then [] else x ∷ r
-
-unfoldable pub kindOf : ℕ → Kind
-kindOf n =
-    if eqb n 1 then ID else (if eqb n 2 then N0 else (if eqb n 3 then DT else (if eqb n 4 then TM else AN)))
-
-unfoldable pub relationOf : ℕ → Relation
-relationOf n =
-    if eqb n 1 then R else (if eqb n 2 then E else (if eqb n 3 then C else (if eqb n 4 then L else P)))
-
--- the code values that follow an element
-unfoldable pub codesIn : List (List ℕ) → List Bytes
-codesIn [] = []
-codesIn (r ∷ rs) = let more = codesIn rs in if isRow 3 r then filled (drop 1 r) ∷ more else []
-
-abbrev pub rowIs : List ℕ → List Bytes → Row
-rowIs r codes = record {
-  reference = column r 1;
-  mandatory = eqb (column r 2) 1;
-  kind = kindOf (column r 3);
-  shortest = column r 4;
-  longest = column r 5;
-  codes = codes;
-}
-
--- the elements up to the next segment
-unfoldable pub rowsIn : List (List ℕ) → List Row
-rowsIn [] = []
-rowsIn (r ∷ rs) = let more = rowsIn rs in if isRow 1 r then [] else (if isRow 2 r then rowIs r (codesIn rs) ∷ more else more)
-
--- the syntax notes up to the next segment
-unfoldable pub notesIn : List (List ℕ) → List Syntax
-notesIn [] = []
-notesIn (r ∷ rs) =
-    let more = notesIn rs in
-    if isRow 1 r then []
-    else (if isRow 4 r then record { relation = relationOf (column r 1); places = filled (drop 2 r) } ∷ more else more)
-
-abbrev pub entryIs : List ℕ → List (List ℕ) → Entry
-entryIs r rs = record {
-  id = filled (take 3 (drop 1 r));
-  mandatory = eqb (column r 4) 1;
-  most = column r 5;
-  rows = rowsIn rs;
-  notes = notesIn rs;
-}
-
-unfoldable pub entriesIn : List (List ℕ) → List Entry
-entriesIn [] = []
-entriesIn (r ∷ rs) = let more = entriesIn rs in if isRow 1 r then entryIs r rs ∷ more else more
-
--- what rows of numbers mean; an id of the directory is three numbers, the third 0 where it has two bytes
-unfoldable pub idsIn : List (List ℕ) → List Bytes
-idsIn [] = []
-idsIn (r ∷ rs) = filled r ∷ idsIn rs
-
-unfoldable pub tableOf : List (List ℕ) → List (List ℕ) → Table
-tableOf ids rows = record { directory = idsIn ids; entries = entriesIn rows }
-
--- 2. The tables of document 01.
+-- The tables of document 01.
 -- mandatory and optional
 abbrev pub M : Bool
 M = true

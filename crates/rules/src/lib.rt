@@ -96,6 +96,13 @@ impl Finding {
     }
 }
 
+// The caller's numbers: the date CCYYMMDD, the time HHMM and the control number of the response.
+pub struct Call {
+    pub date: u32,
+    pub time: u32,
+    pub control: u32,
+}
+
 // A code of AK3: what is wrong with a segment.
 pub struct SegmentCode {
     pub number: u8,

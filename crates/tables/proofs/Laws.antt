@@ -11,7 +11,7 @@ use lib.Dec.{eqb, ltb, lit<}
 use lib.ListN.{length, getD, take, drop, drop-of-length-le, List·getD-eq-default}
 use lib.Seq.{drop-cons, getD-drop, getD-take}
 use Rattle.rules.specs.Base.{Bytes, same, null, all, any, member}
-use Rattle.rules.specs.Tables.{isRow, filled, codesIn, rowsIn, notesIn}
+use Rattle.tables.specs.Rows.{isRow, filled, codesIn, rowsIn, syntaxIn}
 use Rattle.rules.proofs.Logic.{and-left, and-right, all-at}
 use Rattle.tables.specs.Reading.{Guide, isByte, entryAt, rowAt, noteAt, codesAt, idIn, idAt, idBytes, idsAreBytes}
 
@@ -62,21 +62,21 @@ module _ (rows : Guide) (k : ℕ) where
   rows-end h = ap rowsIn (none h)
 
   -- the syntax notes of a segment
-  pub notes-here : isRow 4 (getD rows k []) ≡ true → notesIn (drop k rows) ≡ noteAt rows k ∷ notesIn (drop (k + 1) rows)
-  unfolding notesIn
+  pub notes-here : isRow 4 (getD rows k []) ≡ true → syntaxIn (drop k rows) ≡ noteAt rows k ∷ syntaxIn (drop (k + 1) rows)
+  unfolding syntaxIn
   notes-here e = rw (here (row-within 4 (lit< tt) rows k e), other (getD rows k []) 4 1 (λ x. omega arith) e, e)
 
-  pub notes-skip : isRow 1 (getD rows k []) ≡ false → isRow 4 (getD rows k []) ≡ false → notesIn (drop k rows) ≡ notesIn (drop (k + 1) rows)
-  unfolding notesIn
-  notes-skip e f = either (λ h. rw (here h, e, f)) (λ h. ap notesIn (past h))
+  pub notes-skip : isRow 1 (getD rows k []) ≡ false → isRow 4 (getD rows k []) ≡ false → syntaxIn (drop k rows) ≡ syntaxIn (drop (k + 1) rows)
+  unfolding syntaxIn
+  notes-skip e f = either (λ h. rw (here h, e, f)) (λ h. ap syntaxIn (past h))
 
-  pub notes-stop : isRow 1 (getD rows k []) ≡ true → notesIn (drop k rows) ≡ []
-  unfolding notesIn
+  pub notes-stop : isRow 1 (getD rows k []) ≡ true → syntaxIn (drop k rows) ≡ []
+  unfolding syntaxIn
   notes-stop e = rw (here (row-within 1 (lit< tt) rows k e), e)
 
-  pub notes-end : length rows ≤ k → notesIn (drop k rows) ≡ []
-  unfolding notesIn
-  notes-end h = ap notesIn (none h)
+  pub notes-end : length rows ≤ k → syntaxIn (drop k rows) ≡ []
+  unfolding syntaxIn
+  notes-end h = ap syntaxIn (none h)
 
   -- the code values of an element
   pub codes-here : isRow 3 (getD rows k []) ≡ true → codesAt rows k ≡ filled (drop 1 (getD rows k [])) ∷ codesAt rows (k + 1)

@@ -9,7 +9,7 @@ use lib.Dec.{eqb}
 use lib.ListN.{length, getD, take, drop, drop-of-length-le}
 use lib.Seq.{drop-cons}
 use Rattle.rules.specs.Base.{Bytes, same, any, member, if_then_else_}
-use Rattle.rules.specs.Tables.{filled, idsIn}
+use Rattle.tables.specs.Rows.{filled, idsIn}
 use Rattle.text.specs.Text.{indexOf, indexWhere}
 use Rattle.text.proofs.Loops.{left-cons}
 

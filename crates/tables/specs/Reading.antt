@@ -6,7 +6,8 @@ use mathlib.Core.List.{List, [], _∷_}
 use lib.Dec.{eqb, ltb}
 use lib.ListN.{length, getD, take, drop}
 use Rattle.rules.specs.Base.{Bytes, same, all, if_then_else_}
-use Rattle.rules.specs.Tables.{Row, Syntax, Entry, column, isRow, filled, relationOf, codesIn, rowIs, entryIs}
+use Rattle.rules.specs.Tables.{Row, Syntax, Entry}
+use Rattle.tables.specs.Rows.{column, isRow, filled, relationOf, codesIn, rowIs, entryIs}
 use Rattle.text.specs.Text.{nextWhere}
 use Rattle.tables.specs.declared.SegmentId.{SegmentId}
 

@@ -1,11 +1,11 @@
-// Reading a guide: a table as rows of six numbers, lent. What the numbers mean is said in `rules`.
+// Reading a guide: a table as rows of six numbers, lent. What the numbers mean is said in `specs/Rows.antt`.
 ghost use mathlib.Core.Path.{_≡_};
 ghost use mathlib.Core.Bool.{not};
 ghost use mathlib.Core.List.{[]};
 ghost use Prim.Native.Nat.{_%_};
 ghost use lib.ListN.{getD, drop};
 ghost use Rattle.rules.specs.Base.{same, member, null};
-ghost use Rattle.rules.specs.Tables.{isRow, filled, kindOf, relationOf, idsIn};
+ghost use Rattle.tables.specs.Rows.{isRow, filled, kindOf, relationOf, idsIn};
 ghost use Rattle.text.specs.Text.{nextWhere};
 ghost use Rattle.tables.specs.Reading.{entryAt, codesAt, idIn, isEntryRow, isMandatoryRow, reachFrom, nextMandatory, nextInOrder, idAt};
 use rules::Kind;

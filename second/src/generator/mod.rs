@@ -5,6 +5,7 @@
 
 mod byte_damage;
 mod content;
+mod control_numbers;
 pub mod coverage;
 mod draft;
 mod first_line;
@@ -35,11 +36,17 @@ pub enum Family {
     BufferEdge,
     NearShortest,
     NearLongest,
+    DeepNumbers,
     ManySets,
     ManyNotes,
 }
 
 impl Family {
+    /// The family of the case of this seed and index.
+    pub fn of(seed: u64, index: u64) -> Self {
+        pick_family(&mut Prng::for_case(seed, index))
+    }
+
     /// What a report calls it; all pairs of refusals go by one name.
     pub fn name(self) -> String {
         match self {
@@ -117,7 +124,8 @@ fn pick_family(prng: &mut Prng) -> Family {
             Family::RefusalPair(one.min(other), one.max(other))
         }
         820..940 => Family::DamagedBytes,
-        940..986 => Family::BufferEdge,
+        940..981 => Family::BufferEdge,
+        981..986 => Family::DeepNumbers,
         986..994 => Family::NearShortest,
         994..996 => Family::NearLongest,
         996..998 => Family::ManySets,
@@ -149,6 +157,7 @@ fn make_in_family(prng: &mut Prng, family: Family) -> Case {
             case_of(family, &draft, interchange)
         }
         Family::NearLongest => as_drafted(family, &sizes::near_longest(prng)),
+        Family::DeepNumbers => as_drafted(family, &sizes::deep_numbers(prng)),
         Family::ManySets => at_buffer_edge(prng, family, sizes::many_sets),
         Family::ManyNotes => at_buffer_edge(prng, family, sizes::many_notes),
     }

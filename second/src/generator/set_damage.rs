@@ -1,6 +1,7 @@
 //! Damage to sets, their segments, elements and bytes.
 
 use super::content;
+use super::control_numbers;
 use super::draft::{clean_b1, clean_k1, clean_l11, segment, set_element, Draft, DraftSegment};
 use super::prng::Prng;
 use crate::delimiters::Delimiters;
@@ -29,7 +30,7 @@ pub fn damage_sets(prng: &mut Prng, draft: &mut Draft) {
 }
 
 fn damage_structure_or_element(prng: &mut Prng, draft: &mut Draft) {
-    match prng.below(14) {
+    match prng.below(15) {
         0 => remove_segment(prng, draft),
         1 => repeat_segment(prng, draft),
         2 => swap_segments(prng, draft),
@@ -37,8 +38,9 @@ fn damage_structure_or_element(prng: &mut Prng, draft: &mut Draft) {
         4 => insert_directory_segment(prng, draft),
         5 => remove_trailer(prng, draft),
         6 => repeat_control_number(prng, draft),
-        7 => change_identifier(prng, draft),
-        8 => change_element_count(prng, draft),
+        7 => nearly_repeat_control_number(prng, draft),
+        8 => change_identifier(prng, draft),
+        9 => change_element_count(prng, draft),
         _ => damage_element(prng, draft),
     }
 }
@@ -132,9 +134,25 @@ fn repeat_control_number(prng: &mut Prng, draft: &mut Draft) {
         return;
     };
     let control = draft.segments[from][2].clone();
-    set_element(&mut draft.segments[to], 2, control.clone());
-    let trailer = draft.indices_of("SE").into_iter().find(|&se| se > to);
-    if let Some(trailer) = trailer.filter(|_| prng.percent(80)) {
+    let trailer_too = prng.percent(80);
+    set_control_number(draft, to, control, trailer_too);
+}
+
+/// Gives two sets control numbers that begin alike.
+fn nearly_repeat_control_number(prng: &mut Prng, draft: &mut Draft) {
+    let headers = draft.indices_of("ST");
+    let controls = control_numbers::nearly_equal(prng, &draft.delimiters);
+    for control in controls {
+        if let Some(header) = pick_index(prng, &headers) {
+            set_control_number(draft, header, control, true);
+        }
+    }
+}
+
+fn set_control_number(draft: &mut Draft, header: usize, control: Vec<u8>, trailer_too: bool) {
+    set_element(&mut draft.segments[header], 2, control.clone());
+    let trailer = draft.indices_of("SE").into_iter().find(|&se| se > header);
+    if let Some(trailer) = trailer.filter(|_| trailer_too) {
         set_element(&mut draft.segments[trailer], 2, control);
     }
 }
@@ -179,7 +197,7 @@ fn damage_element(prng: &mut Prng, draft: &mut Draft) {
     let element = &mut segment[place];
     match (id.as_slice(), place) {
         (b"B1", 3) if prng.percent(50) => *element = prng.pick(&BAD_DATES).as_bytes().to_vec(),
-        (b"B1", 4) if prng.percent(60) => *element = vec![*prng.pick(b"QEad0 ")],
+        (b"B1", 4) if prng.percent(60) => *element = vec![*prng.pick(b"BCERQ@ad0 ")],
         _ => damage_bytes_of_element(prng, &delimiters, element),
     }
 }

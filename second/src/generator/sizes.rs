@@ -1,6 +1,7 @@
-//! Interchanges of remarkable size: around the limits, and of many sets.
+//! Interchanges of remarkable size: around the limits, and of many sets or segments.
 
-use super::draft::{clean_set, segment, Draft, DraftSegment, Edition};
+use super::control_numbers;
+use super::draft::{clean_set, segment, set_element, Draft, DraftSegment, Edition};
 use super::prng::Prng;
 use crate::isa::{ISA_LENGTH, LONGEST_INTERCHANGE};
 
@@ -33,22 +34,74 @@ pub fn near_longest(prng: &mut Prng) -> Draft {
     draft
 }
 
-/// Hundreds to thousands of sets; control numbers come again far apart.
+/// Hundreds to thousands of sets, up to as many as fit; some control numbers
+/// come again, most of them far apart.
 pub fn many_sets(prng: &mut Prng) -> Draft {
     let edition = *prng.pick(&[Edition::Of004010, Edition::Of006010]);
     let mut draft = Draft::without_sets(prng, edition);
-    let (shape, most) = *prng.pick(&[
-        (TinySet::HeaderOnly, 5_000),
-        (TinySet::WithTrailer, 2_500),
-        (TinySet::Clean, 2_000),
+    let shape = *prng.pick(&[
+        TinySet::HeaderOnly,
+        TinySet::HeaderOnly,
+        TinySet::WithTrailer,
+        TinySet::Clean,
     ]);
-    let count = prng.between(300, most);
-    let different = count - prng.below(5);
-    let control = |number: usize| format!("{:04}", number % different);
-    let sets = (0..count).flat_map(|number| tiny_set(shape, &control(number)));
+    let longest = *prng.pick(&[4, 4, 4, 5, 9]);
+    let most = room(&draft) / rendered_length(&tiny_set(shape, &[b'0'; 9][..longest]));
+    let count = match prng.below(3) {
+        0 => most - prng.below(20),
+        _ => prng.between(300, most),
+    };
+    let mut numbers = match longest {
+        9 => control_numbers::of_one_bucket("AAAA", count),
+        5 => control_numbers::of_one_bucket("", count),
+        _ => (0..count).map(|n| format!("{n:04}").into_bytes()).collect(),
+    };
+    for _ in 0..prng.below(6) {
+        let (one, other) = (place(prng, count), place(prng, count));
+        numbers[one.max(other)] = numbers[one.min(other)].clone();
+    }
+    append_sets(&mut draft, shape, &numbers);
+    draft
+}
+
+/// Anywhere, or at either end.
+fn place(prng: &mut Prng, count: usize) -> usize {
+    match prng.below(3) {
+        0 => prng.below(10),
+        1 => count - 1 - prng.below(count.min(500)),
+        _ => prng.below(count),
+    }
+}
+
+/// Sets whose control numbers are a long way to look up, and these again.
+pub fn deep_numbers(prng: &mut Prng) -> Draft {
+    let edition = *prng.pick(&[Edition::Of004010, Edition::Of006010]);
+    let mut draft = Draft::without_sets(prng, edition);
+    let shape = *prng.pick(&[TinySet::HeaderOnly, TinySet::WithTrailer, TinySet::Clean]);
+    let mut numbers = control_numbers::way_through_a_tree(prng, &draft.delimiters);
+    for _ in 0..prng.below(20) {
+        let again = prng.pick(&numbers).clone();
+        numbers.push(again);
+    }
+    append_sets(&mut draft, shape, &numbers);
+    draft
+}
+
+/// The bytes that the segments of a draft may still take, with a longer GE01.
+fn room(draft: &Draft) -> usize {
+    LONGEST_INTERCHANGE - draft.render().len() - "00000".len()
+}
+
+fn rendered_length(segments: &[DraftSegment]) -> usize {
+    let separated =
+        |segment: &DraftSegment| segment.iter().map(|part| part.len() + 1).sum::<usize>();
+    segments.iter().map(separated).sum()
+}
+
+fn append_sets(draft: &mut Draft, shape: TinySet, numbers: &[Vec<u8>]) {
+    let sets = numbers.iter().flat_map(|number| tiny_set(shape, number));
     draft.append_to_group(sets.collect());
     draft.recount();
-    draft
 }
 
 #[derive(Clone, Copy)]
@@ -58,9 +111,10 @@ enum TinySet {
     Clean,
 }
 
-fn tiny_set(shape: TinySet, control: &str) -> Vec<DraftSegment> {
-    let header = segment(&["ST", "990", control], []);
-    let trailer = segment(&["SE", "", control], []);
+fn tiny_set(shape: TinySet, control: &[u8]) -> Vec<DraftSegment> {
+    let header = segment(&["ST", "990"], [control.to_vec()]);
+    // Only the width of the count matters here: it is put right with all others.
+    let trailer = segment(&["SE", "3"], [control.to_vec()]);
     match shape {
         TinySet::HeaderOnly => vec![header],
         TinySet::WithTrailer => vec![header, trailer],
@@ -68,14 +122,24 @@ fn tiny_set(shape: TinySet, control: &str) -> Vec<DraftSegment> {
     }
 }
 
-/// One set of thousands of segments, each of which is noted.
+/// One set of thousands of segments, up to as many as fit, each of which is noted.
 pub fn many_notes(prng: &mut Prng) -> Draft {
     let mut draft = Draft::without_sets(prng, Edition::Of006010);
+    let mut set = tiny_set(TinySet::Clean, b"0001");
     let stray = segment(&[*prng.pick(&["", "N1", "K1", "b1"])], []);
-    let count = prng.between(1000, 8000);
-    let mut set = tiny_set(TinySet::Clean, "0001");
+    let room = room(&draft) - rendered_length(&set) - "00000".len();
+    let most = room / rendered_length(std::slice::from_ref(&stray));
+    let count = match prng.below(4) {
+        0 => most - prng.below(20),
+        1 => prng.between(8_000, most),
+        _ => prng.between(1_000, 8_000),
+    };
     set.splice(2..2, std::iter::repeat_n(stray, count));
     draft.append_to_group(set);
     draft.recount();
+    if prng.percent(20) {
+        let se = draft.indices_of("SE")[0];
+        set_element(&mut draft.segments[se], 1, (count + 2).to_string());
+    }
     draft
 }

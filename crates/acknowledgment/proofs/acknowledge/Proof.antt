@@ -13,7 +13,7 @@ enum-known-f : tie.Need-enum-known-f
 enum-known-f c = search needs
 
 answer-group-requires : tie.Need-answer-group-requires
-answer-group-requires c κs = sound-clear _ _ _ _ (sym (c .before .before .f .given .1) ∙ c .before .before .before .before .check .ensures)
+answer-group-requires c κs = sound-clear _ _ (sym (c .before .before .f .given .1) ∙ c .before .before .before .before .check .ensures)
 
 enum-known-n : tie.Need-enum-known-n
 enum-known-n c = search needs
@@ -25,7 +25,7 @@ returns : tie.Need-returns
 returns c = search needs
 
 returns-2 : tie.Need-returns-2
-returns-2 c = refused-allowed _ _ _ _ _ (sym (c .before .n .given .1) ∙ c .before .before .before .check .ensures)
+returns-2 c = refused-allowed _ _ _ (sym (c .before .n .given .1) ∙ c .before .before .before .check .ensures)
 
 pub acknowledge-spec : {M : Type 1} → statement M
 acknowledge-spec =

@@ -10,10 +10,13 @@ respond-requires c κs =
     let rows = c .before .before .before in
     let scope = rows .before .before in
     let d = scope .before .before in
-    answerable _ _ _ _ (d .before .before .before .pre) (d .delimiters .ensures) (rows .before .directory .ensures) (rows .rows .ensures) (scope .scope-of .ensures ∙ rw (scope .before .part .ensures))
+    answerable _ _ (d .before .before .before .pre) (d .delimiters .ensures) (rows .before .directory .ensures) (rows .rows .ensures) (scope .scope-of .ensures ∙ rw (scope .before .part .ensures))
 
 returns : tie.Need-returns
-returns c = allowed _ _ _ _ _ (c .before .before .before .before .before .before .before .before .before .before .before .before .before .pre .0) (c .before .before .respond .ensures)
+returns c =
+    let answer = c .before .before in
+    let d = answer .before .before .before .before .before .before .before .before in
+    allowed _ _ _ (d .before .before .before .pre .0) (answer .respond .ensures)
 
 pub answer-group-spec : {M : Type 1} → statement M
 answer-group-spec =

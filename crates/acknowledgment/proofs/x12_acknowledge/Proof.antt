@@ -23,19 +23,19 @@ same-length : tie.Need-same-length
 same-length c = search needs
 
 returns : tie.Need-returns
-returns c = allowed-outcome _ _ _ _ _ _ (rw (c .before .n .given .1) at (c .before .before .before .before .before .acknowledge .ensures))
+returns c = allowed-outcome _ _ _ _ (rw (c .before .n .given .1) at (c .before .before .before .before .before .acknowledge .ensures))
 
 same-length-2 : tie.Need-same-length-2
 same-length-2 c = search needs
 
 returns-2 : tie.Need-returns-2
-returns-2 c = allowed-outcome _ _ _ _ _ _ (rw (c .before .number .given .1) at (c .before .before .before .before .before .acknowledge .ensures))
+returns-2 c = allowed-outcome _ _ _ _ (rw (c .before .number .given .1) at (c .before .before .before .before .before .acknowledge .ensures))
 
 same-length-3 : tie.Need-same-length-3
 same-length-3 c = search needs
 
 returns-3 : tie.Need-returns-3
-returns-3 c = allowed-outcome _ _ _ _ _ _ (rw (c .before .n2 .given .1) at (c .before .before .before .before .before .acknowledge .ensures))
+returns-3 c = allowed-outcome _ _ _ _ (rw (c .before .n2 .given .1) at (c .before .before .before .before .before .acknowledge .ensures))
 
 pub x12-acknowledge-spec : {M : Type 1} → statement M
 x12-acknowledge-spec =

@@ -3,7 +3,7 @@ use mathlib.Core.Path.{ap, _∙_}
 use lib.ListN.{drop, length-drop}
 use lib.Seq.{take-all}
 use Rattle.rules.specs.Cutting.{split}
-use Rattle.rules.specs.Tables.{filled}
+use Rattle.tables.specs.Rows.{filled}
 use Rattle.elements.specs.Notes.{breaksBy}
 use borrow.Author.Tests.{eq-eqb, ne-eqb}
 use native.Mathlib.Omega.{arith}

@@ -5,7 +5,7 @@ use Prim.Native.Nat.{_-_}
 use lib.ListN.{length, drop}
 use Rattle.rules.specs.Base.{any}
 use Rattle.rules.specs.Cutting.{split}
-use Rattle.rules.specs.Tables.{notesIn}
+use Rattle.tables.specs.Rows.{syntaxIn}
 use Rattle.elements.specs.Notes.{breaks}
 use Rattle.elements.proofs.Notes.{notes-step, notes-over, notes-past}
 use borrow.Author.Needs.{needs}
@@ -13,7 +13,7 @@ use Rattle.elements.proofs.breaks_notes.Statement.{statement}
 use Rattle.elements.proofs.breaks_notes.Tie as tie
 
 abbrev Inv-loop : tie.InvT-loop
-Inv-loop s e guide from n k₀ k = any (breaks (split e s) n) (notesIn (drop from guide)) ≡ any (breaks (split e s) n) (notesIn (drop k guide))
+Inv-loop s e guide from n k₀ k = any (breaks (split e s) n) (syntaxIn (drop from guide)) ≡ any (breaks (split e s) n) (syntaxIn (drop k guide))
 
 abbrev μ-loop : tie.MeasureT-loop
 μ-loop s e guide from n k₀ k = length guide - k

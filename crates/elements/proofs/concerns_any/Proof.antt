@@ -5,14 +5,14 @@ use mathlib.Core.Bool.{true, false}
 use borrow.Author.Needs.{needs}
 use lib.ListN.{length, drop}
 use Rattle.rules.specs.Base.{any}
-use Rattle.rules.specs.Tables.{notesIn}
+use Rattle.tables.specs.Rows.{syntaxIn}
 use Rattle.elements.specs.Notes.{concerns}
 use Rattle.elements.proofs.Notes.{notes-step, notes-over, notes-past}
 use Rattle.elements.proofs.concerns_any.Statement.{statement}
 use Rattle.elements.proofs.concerns_any.Tie as tie
 
 abbrev Inv-loop : tie.InvT-loop
-Inv-loop guide from present k₀ k = any (concerns present) (notesIn (drop from guide)) ≡ any (concerns present) (notesIn (drop k guide))
+Inv-loop guide from present k₀ k = any (concerns present) (syntaxIn (drop from guide)) ≡ any (concerns present) (syntaxIn (drop k guide))
 
 abbrev μ-loop : tie.MeasureT-loop
 μ-loop guide from present k₀ k = length guide - k

@@ -2,14 +2,14 @@
 use mathlib.Core.Path.{_≡_, sym, _∙_}
 use Prim.Native.Nat.{_-_}
 use lib.ListN.{length, drop}
-use Rattle.rules.specs.Tables.{notesIn}
+use Rattle.tables.specs.Rows.{syntaxIn}
 use Rattle.tables.proofs.Laws.{notes-skip}
 use borrow.Author.Needs.{needs}
 use Rattle.elements.proofs.first_note.Statement.{statement}
 use Rattle.elements.proofs.first_note.Tie as tie
 
 abbrev Inv-loop : tie.InvT-loop
-Inv-loop guide from k₀ k = notesIn (drop k guide) ≡ notesIn (drop from guide)
+Inv-loop guide from k₀ k = syntaxIn (drop k guide) ≡ syntaxIn (drop from guide)
 
 abbrev μ-loop : tie.MeasureT-loop
 μ-loop guide from k₀ k = length guide - k

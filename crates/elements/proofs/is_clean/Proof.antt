@@ -9,7 +9,7 @@ use lib.ListN.{length}
 use Rattle.rules.specs.Base.{Bytes, null, any}
 use Rattle.rules.specs.Cutting.{split, field}
 use Rattle.rules.specs.Elements.{elementCode, findings, findingsFrom}
-use Rattle.rules.specs.Tables.{notesIn, rowsIn}
+use Rattle.tables.specs.Rows.{syntaxIn, rowsIn}
 use Rattle.text.proofs.Search.{find-le}
 use Rattle.segments.proofs.Fields.{FieldAt, field-first, field-next}
 use Rattle.tables.specs.Reading.{entryAt, rowAt}
@@ -76,7 +76,7 @@ notes-said : (c : tie.After-breaks-any Inv-loop μ-loop)
 notes-said c =
     let a = c .before .before .before .before .before .before .before .before .before .before .before .before .before .before .before .before .before .before .args in
     c .breaks-any .ensures
-    ∙ ap (any (breaks (split (a .d .element) (a .s .now)) (c .before .before .before .before .before .before .before .before .before .before .before .before .before .loop .n))) (c .before .before .before .before .before .before .before .before .before .before .before .before .before .before .before .first-note .ensures ∙ ap notesIn (c .before .before .before .before .before .before .before .before .before .before .before .before .before .before .before .before .below .ensures))
+    ∙ ap (any (breaks (split (a .d .element) (a .s .now)) (c .before .before .before .before .before .before .before .before .before .before .before .before .before .loop .n))) (c .before .before .before .before .before .before .before .before .before .before .before .before .before .before .before .first-note .ensures ∙ ap syntaxIn (c .before .before .before .before .before .before .before .before .before .before .before .before .before .before .before .before .below .ensures))
 
 below-requires : tie.Need-below-requires Inv-loop μ-loop
 below-requires c κs = search needs

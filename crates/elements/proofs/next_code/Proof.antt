@@ -9,7 +9,7 @@ use denote.Ref.{now}
 use Rattle.rules.specs.Base.{Bytes, null, any, if_then_else_}
 use Rattle.rules.specs.Cutting.{split}
 use Rattle.rules.specs.Elements.{elementCode, present}
-use Rattle.rules.specs.Tables.{notesIn}
+use Rattle.tables.specs.Rows.{syntaxIn}
 use Rattle.segments.proofs.Fields.{present-length}
 use Rattle.tables.specs.Reading.{entryAt, rowAt}
 use Rattle.elements.specs.Notes.{breaks}
@@ -38,7 +38,7 @@ coded c =
     next-code (entryAt (a .guide .now) (a .entry) .notes) s (a .n) (a .d) (rowAt (a .guide .now) (a .k))
     _ (c .element-code .ensures ∙ ap (elementCode (a .d) (rowAt (a .guide .now) (a .k))) (c .before .before .before .field .ensures))
     _ (is-there (c .before .before .before))
-    _ (c .before .breaks-notes .ensures ∙ ap (λ (l : List (List ℕ)). any (breaks s (a .n)) (notesIn l)) (c .before .before .below .ensures))
+    _ (c .before .breaks-notes .ensures ∙ ap (λ (l : List (List ℕ)). any (breaks s (a .n)) (syntaxIn l)) (c .before .before .below .ensures))
     (a .told)
 
 field-requires : tie.Need-field-requires

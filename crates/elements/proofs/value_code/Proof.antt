@@ -1,7 +1,7 @@
 -- `elements::value_code` meets its contract.
 use mathlib.Core.Path.{_≡_, refl, sym, ap, _∙_}
 use borrow.Author.Tests.{not-true, not-false, lt-ltb, le-ltb}
-use Rattle.rules.specs.Tables.{kindOf}
+use Rattle.tables.specs.Rows.{kindOf}
 use Rattle.tables.specs.Reading.{rowAt}
 use Rattle.elements.proofs.Codes.{value-by}
 use borrow.Author.Needs.{needs}

@@ -10,14 +10,14 @@ use Rattle.exchange.proofs.exchange.Tie as tie
 call-of-requires : tie.Need-call-of-requires
 call-of-requires c κs = search needs
 
-enum-known-date : tie.Need-enum-known-date
-enum-known-date c = search needs
+enum-known-call : tie.Need-enum-known-call
+enum-known-call c = search needs
 
 sub-print-answer : tie.Need-sub-print-answer
-sub-print-answer c = starts-within _ (sym (c .before .before .date .given .1) ∙ c .before .before .before .before .call-of .ensures)
+sub-print-answer c = starts-within _ (sym (c .before .before .call .given .1) ∙ c .before .before .before .before .call-of .ensures)
 
 part-print-answer-start : tie.Need-part-print-answer-start
-part-print-answer-start c = starts-within _ (sym (c .before .before .date .given .1) ∙ c .before .before .before .before .call-of .ensures)
+part-print-answer-start c = starts-within _ (sym (c .before .before .call .given .1) ∙ c .before .before .before .before .call-of .ensures)
 
 part-print-answer-end : tie.Need-part-print-answer-end
 part-print-answer-end c = search needs
@@ -35,7 +35,7 @@ same-length : tie.Need-same-length
 same-length c = search needs
 
 returns : tie.Need-returns
-returns c = exchanged _ (sym (c .before .before .before .before .before .before .date .given .1) ∙ c .before .before .before .before .before .before .before .before .call-of .ensures) (rw rest at (c .before .before .print-answer .ensures)) (omega arith)
+returns c = exchanged _ (sym (c .before .before .before .before .before .before .call .given .1) ∙ c .before .before .before .before .before .before .before .before .call-of .ensures) (rw rest at (c .before .before .print-answer .ensures)) (omega arith)
 
 same-length-2 : tie.Need-same-length-2
 same-length-2 c = search needs
@@ -48,7 +48,7 @@ exchange-spec =
     tie.close
     (tie.spec
     call-of-requires
-    enum-known-date
+    enum-known-call
     sub-print-answer
     part-print-answer-start
     part-print-answer-end

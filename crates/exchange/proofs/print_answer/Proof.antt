@@ -28,19 +28,19 @@ same-length : tie.Need-same-length
 same-length c = search needs
 
 returns : tie.Need-returns
-returns c = written _ _ _ _ (c .before .before .before .before .before .acknowledge .ensures) (c .before .n .given .1) (omega arith)
+returns c = written _ _ (c .before .before .before .before .before .acknowledge .ensures) (c .before .n .given .1) (omega arith)
 
 same-length-2 : tie.Need-same-length-2
 same-length-2 c = search needs
 
 returns-2 : tie.Need-returns-2
-returns-2 c = refused _ _ _ _ (c .before .before .before .before .before .before .before .before .before .acknowledge .ensures) (c .before .before .before .before .before .number .given .1) refl (c .before .before .put-refused .ensures)
+returns-2 c = refused _ _ (c .before .before .before .before .before .before .before .before .before .acknowledge .ensures) (c .before .before .before .before .before .number .given .1) refl (c .before .before .put-refused .ensures)
 
 same-length-3 : tie.Need-same-length-3
 same-length-3 c = search needs
 
 returns-3 : tie.Need-returns-3
-returns-3 c = refused _ _ _ _ (c .before .before .before .before .before .before .before .before .acknowledge .ensures) (c .before .before .before .before .enum-told .given .1) refl (c .before .before .put-refused2 .ensures)
+returns-3 c = refused _ _ (c .before .before .before .before .before .before .before .before .acknowledge .ensures) (c .before .before .before .before .enum-told .given .1) refl (c .before .before .put-refused2 .ensures)
 
 pub print-answer-spec : {M : Type 1} → statement M
 print-answer-spec =

@@ -61,9 +61,6 @@ value-requires-3 c κs = search needs
 cast-control : tie.Need-cast-control
 cast-control c = let small = nine-digits 1 9 _ _ (parts (c .before .before .before .before .before .before) .control) (omega arith) (c .value3 .ensures) in omega arith
 
-add-t17 : tie.Need-add-t17
-add-t17 c = search needs
-
 returns-2 : tie.Need-returns-2
 returns-2 c = sym (numbers-on _ _ _ _ (passed (c .before .before .before .before .before .before)) (c .before .before .before .before .value .ensures) (c .before .before .value2 .ensures) (c .value3 .ensures))
 
@@ -86,5 +83,5 @@ call-on-spec =
     part-value-end-2
     value-requires-3
     cast-control
-    add-t17
+    (λ c. search needs)
     returns-2)

@@ -58,7 +58,7 @@ returns-3 c =
     ∙ sym (f .before .before .loop .inv .1 .1 ∙ set-goes _ _ _ _ (f .before .loop-test .taken) (f .find2 .ensures) _ _ _ _ false true trailer header)
 
 add-segments : tie.Need-add-segments Inv-loop μ-loop
-add-segments c = omega (arith, c .before .before .before .before .before .before .before .before .before .loop .inv .1 .0)
+add-segments c = let segment = c .before .before .before .before .before .before .before in omega (arith, segment .before .before .loop .inv .1 .0)
 
 add-next-2 : tie.Need-add-next-2 Inv-loop μ-loop
 add-next-2 c =

@@ -5,7 +5,7 @@ use Prim.Native.Nat.{ℕ}
 use lib.ListN.{drop, length-drop}
 use lib.Seq.{take-all}
 use Rattle.rules.specs.Base.{same}
-use Rattle.rules.specs.Tables.{filled}
+use Rattle.tables.specs.Rows.{filled}
 use Rattle.tables.proofs.Numbers.{same-swap}
 use native.Mathlib.Omega.{arith}
 use borrow.Author.Needs.{needs}

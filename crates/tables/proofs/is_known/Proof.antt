@@ -4,7 +4,7 @@ use mathlib.Core.Path.{_≡_, sym, _∙_}
 use mathlib.Core.Bool.{true, false}
 use lib.ListN.{length, drop}
 use Rattle.rules.specs.Base.{member}
-use Rattle.rules.specs.Tables.{idsIn}
+use Rattle.tables.specs.Rows.{idsIn}
 use Rattle.tables.proofs.Numbers.{known-step, known-end}
 use borrow.Author.Needs.{needs}
 use Rattle.tables.proofs.is_known.Statement.{statement}

@@ -4,7 +4,7 @@ use mathlib.Core.List.{List}
 use Prim.Native.Nat.{ℕ}
 use lib.Seq.{take-all}
 use Rattle.rules.specs.Base.{same}
-use Rattle.rules.specs.Tables.{filled}
+use Rattle.tables.specs.Rows.{filled}
 use Rattle.tables.proofs.Laws.{three}
 use Rattle.tables.proofs.Numbers.{same-swap}
 use native.Mathlib.Omega.{arith}

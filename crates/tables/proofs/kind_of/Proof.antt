@@ -1,6 +1,6 @@
 -- `tables::kind_of` meets its contract.
 use borrow.Author.Tests.{ne-eqb}
-use Rattle.rules.specs.Tables.{kindOf}
+use Rattle.tables.specs.Rows.{kindOf}
 use Rattle.tables.proofs.kind_of.Statement.{statement}
 use Rattle.tables.proofs.kind_of.Tie as tie
 

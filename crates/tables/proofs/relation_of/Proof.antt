@@ -1,6 +1,6 @@
 -- `tables::relation_of` meets its contract.
 use borrow.Author.Tests.{ne-eqb}
-use Rattle.rules.specs.Tables.{relationOf}
+use Rattle.tables.specs.Rows.{relationOf}
 use Rattle.tables.proofs.relation_of.Statement.{statement}
 use Rattle.tables.proofs.relation_of.Tie as tie
 

@@ -8,7 +8,7 @@ use lib.ListN.{length, drop}
 use lib.Dec.{eqb}
 use Prim.Native.Nat.{ℕ}
 use Rattle.rules.specs.Base.{same}
-use Rattle.rules.specs.Tables.{filled}
+use Rattle.tables.specs.Rows.{filled}
 use Rattle.tables.proofs.Numbers.{spell-short, spell-step, spell-end}
 use native.Mathlib.Omega.{arith}
 use Rattle.tables.proofs.spells.Statement.{statement}

@@ -23,13 +23,18 @@ returns c =
     let parts = survey .before .before .before in
     let entry = parts .before .before .before .before .before .before in
     let a = entry .args in
-    too-long _ (response (a .i .now) (a .caller .date) (a .caller .time) (a .caller .control))
-    (response-measured (entry .pre) (parts .before .before .part .ensures) (parts .before .part2 .ensures) (parts .part3 .ensures) (survey .survey-sets .ensures) (summary .summary-of .ensures) _ _ _
+    too-long _ (response (a .i .now) (a .call))
+    (response-measured (entry .pre) (parts .before .before .part .ensures) (parts .before .part2 .ensures) (parts .part3 .ensures) (survey .survey-sets .ensures) (summary .summary-of .ensures) _
     (survey .survey-sets .ensures .measured) (length .response-length .ensures))
-    (response-bound (a .i .now) (a .caller .date) (a .caller .time) (a .caller .control) (entry .pre .short)) (c .if1 .taken)
+    (response-bound (a .i .now) (a .call) (entry .pre .short)) (c .if1 .taken)
 
 put-sets-requires : tie.Need-put-sets-requires
-put-sets-requires c κs = (c .before .before .before .before .before .before .before .before .before .before .before .before .before .before .before .before .survey-sets .ensures, c .before .before .before .before .before .before .before .before .before .before .before .before .before .before .before .before .before .before .before .before .before .before .before .before .before .pre .tables)
+put-sets-requires c κs =
+    let opening = c .before .before .before .before .before .before in
+    let length = opening .before .before .before in
+    let survey = length .before .before .before .before .before .before .before in
+    let parts = survey .before .before .before in
+    (survey .survey-sets .ensures, parts .before .before .before .before .before .before .pre .tables)
 
 returns-2 : tie.Need-returns-2
 returns-2 c =
@@ -46,10 +51,10 @@ returns-2 c =
     let entry = parts .before .before .before .before .before .before in
     let a = entry .args in
     written _ _
-    (response-measured (entry .pre) (parts .before .before .part .ensures) (parts .before .part2 .ensures) (parts .part3 .ensures) (survey .survey-sets .ensures) (summary .summary-of .ensures) _ _ _
+    (response-measured (entry .pre) (parts .before .before .part .ensures) (parts .before .part2 .ensures) (parts .part3 .ensures) (survey .survey-sets .ensures) (summary .summary-of .ensures) _
     (survey .survey-sets .ensures .measured) (length .response-length .ensures))
-    (response-bound _ _ _ _ (entry .pre .short)) (test .if1 .left)
-    (response-written (entry .pre) (parts .before .before .part .ensures) (parts .before .part2 .ensures) (parts .part3 .ensures) (survey .survey-sets .ensures) (summary .summary-of .ensures) _ _ _
+    (response-bound _ _ (entry .pre .short)) (test .if1 .left)
+    (response-written (entry .pre) (parts .before .before .part .ensures) (parts .before .part2 .ensures) (parts .part3 .ensures) (survey .survey-sets .ensures) (summary .summary-of .ensures) _
     (blocks .put-sets .ensures .number) (opening .put-opening .ensures)
     (lend (rest .clipped .ensures) (blocks .put-sets .ensures .text) (joined .joined .ensures) (omega arith)) (closing .add-closing .ensures))
 

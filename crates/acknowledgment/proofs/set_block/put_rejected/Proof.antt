@@ -7,7 +7,9 @@ use Rattle.acknowledgment.proofs.set_block.put_rejected.Statement.{stat
 use Rattle.acknowledgment.proofs.set_block.put_rejected.Tie as tie
 
 codes-of-requires : tie.Need-codes-of-requires
-codes-of-requires c κs = c .before .before .before .before .before .before .before .before .before .before .before .before .before .pre .is
+codes-of-requires c κs =
+    let ak2 = c .before .before .before .before .before .before .before in
+    ak2 .before .before .before .before .before .before .pre .is
 
 returns : tie.Need-returns
 returns c =

@@ -48,7 +48,13 @@ enter-requires c κs =
     (ready .0, (rw (is .starts) (ready .1), at-start is))
 
 -- the set as received
-received : (c : tie.After-receive Inv-loop μ-loop) → ReceivedIs (c .before .before .before .before .before .before .before .before .before .before .before .before .before .before .args .reading .delimiters) (c .before .before .before .before .before .before .before .before .before .before .before .before .before .before .args .body .now) (c .before .before .before .before .before .before .before .before .before .before .before .before .before .before .args .rows .now) (c .receive .result)
+abbrev IsReceived : tie.After-receive Inv-loop μ-loop → Type 0
+IsReceived c =
+    let place = c .before .before .before .before .before .before .before in
+    let a = place .before .before .before .before .before .before .before .args in
+    ReceivedIs (a .reading .delimiters) (a .body .now) (a .rows .now) (c .receive .result)
+
+received : (c : tie.After-receive Inv-loop μ-loop) → IsReceived c
 received c =
     let place = c .before .before .before .before .before .before .before in
     received-is (place .next-set .ensures) (set place) _ _ (c .receive .ensures) (place .before .before .before .before .before .before .before .pre .tables)
@@ -57,13 +63,13 @@ slice-write-marks : tie.Need-slice-write-marks Inv-loop μ-loop
 slice-write-marks c = omega (arith, room (c .before .before .before .before .before .before .before .before))
 
 add-accepted : tie.Need-add-accepted Inv-loop μ-loop
-add-accepted c = let place = c .before .before .before .before .before .before .before .before .before .before .before .before in omega (arith, room place, place .before .before .loop .inv .0 .among)
+add-accepted c = let mark = c .before .before .before .before in let place = mark .before .before .before .before .before .before .before .before in omega (arith, room place, place .before .before .loop .inv .0 .among)
 
 add-received : tie.Need-add-received Inv-loop μ-loop
-add-received c = omega (arith, room (c .before .before .before .before .before .before .before .before .before .before .before .before))
+add-received c = let mark = c .before .before .before .before in omega (arith, room (mark .before .before .before .before .before .before .before .before))
 
 loop-less : tie.Need-loop-less Inv-loop μ-loop
-loop-less c = omega (arith, set (c .before .before .before .before .before .before .before .before .before .before .before .before) .onward)
+loop-less c = let mark = c .before .before .before .before in omega (arith, set (mark .before .before .before .before .before .before .before .before) .onward)
 
 loop-again : tie.Need-loop-again Inv-loop μ-loop
 loop-again c =

@@ -1,0 +1,222 @@
+// ISA: its delimiters and its fields, and refusals 2 to 6, which are read of it and of the last byte.
+ghost use mathlib.Core.Path.{_≡_};
+ghost use mathlib.Core.List.{[], _∷_};
+ghost use Prim.Native.Nat.{_<_};
+ghost use lib.ListN.{getD};
+ghost use Rattle.rules.specs.Base.{ascii, all, first, last, member};
+ghost use Rattle.rules.specs.Cutting as cutting;
+ghost use Rattle.rules.specs.Cutting.{field, isa, marks, separators, valid};
+ghost use Rattle.rules.specs.Refusals.{headRules, endRules, hasISA, plain, distinct, goodMarks, goodISA};
+use rules::Delimiters;
+use rules::Interchange;
+use text::all_valid;
+use text::is_digits;
+use text::same_bytes;
+
+// The fields of ISA that are read by place: the id, and ISA01 to ISA15.
+const FIELDS: usize = 16;
+
+// Where the separator after each of them stands.
+const SEPARATORS: [usize; FIELDS] = [
+    3,
+    6,
+    17,
+    20,
+    31,
+    34,
+    50,
+    53,
+    69,
+    76,
+    81,
+    83,
+    89,
+    99,
+    101,
+    103,
+];
+
+// Where the delimiters stand.
+const ELEMENT: usize = 3;
+
+const COMPONENT: usize = 104;
+
+const TERMINATOR: usize = 105;
+
+// Refusals 2 to 5: the length of the interchange, and its ISA.
+pub fn head_refusal(i: &[u8]) -> u8
+    ensures { λ r. ⌜ r ≡ first (headRules (now (i .entry))) ⌝ }
+{
+    if i.len() < Interchange::SHORTEST {
+        return 2;
+    }
+    if Interchange::LONGEST < i.len() {
+        return 2;
+    }
+    if !has_isa(i) {
+        return 3;
+    }
+    let d = delimiters(i);
+    if !are_good_marks(d) {
+        return 4;
+    }
+    if !is_good_isa(i, d) {
+        return 5;
+    }
+    0
+}
+
+// Refusal 6: the last byte ends a segment.
+pub fn end_refusal(i: &[u8]) -> u8
+    ensures { λ r. ⌜ r ≡ first (endRules (now (i .entry))) ⌝ }
+{
+    let d = delimiters(i);
+    if last_byte(i) != d.terminator {
+        return 6;
+    }
+    0
+}
+
+// The delimiters that the interchange brings, each 0 where it is too short.
+pub fn delimiters(i: &[u8]) -> Delimiters
+    ensures { λ r. ⌜ r ≡ cutting.delimiters (now (i .entry)) ⌝ }
+{
+    Delimiters::new(
+        byte_at(i, ELEMENT),
+        byte_at(i, COMPONENT),
+        byte_at(i, TERMINATOR),
+    )
+}
+
+// Field n of ISA by its fixed places, up to ISA15; of a short interchange what there is of it.
+pub fn isa_field(i: &[u8], n: usize) -> &[u8]
+    ensures { λ r. ⌜ now r ≡ field (isa (now (i .entry))) n ⌝ }
+{
+    if FIELDS <= n {
+        return &i[0..0];
+    }
+    let end = separator(n);
+    if n == 0 {
+        return text::part(i, 0, end);
+    }
+    text::part(i, separator(n - 1) + 1, end)
+}
+
+// ISA, and a separator at each of its places.
+fn has_isa(i: &[u8]) -> bool
+    ensures { λ r. ⌜ r ≡ hasISA (now (i .entry)) ⌝ }
+{
+    if !same_bytes(text::part(i, 0, 3), &rules::ISA) {
+        return false;
+    }
+    let mut k = 0;
+    while k < FIELDS {
+        if byte_at(i, separator(k)) != byte_at(i, ELEMENT) {
+            return false;
+        }
+        k += 1;
+    }
+    true
+}
+
+fn are_good_marks(d: Delimiters) -> bool
+    ensures { λ r. ⌜ r ≡ goodMarks (marks d) ⌝ }
+{
+    if !are_distinct(d) {
+        return false;
+    }
+    if !is_plain(d.element) {
+        return false;
+    }
+    if !is_plain(d.component) {
+        return false;
+    }
+    is_plain(d.terminator)
+}
+
+fn are_distinct(d: Delimiters) -> bool
+    ensures { λ r. ⌜ r ≡ distinct (marks d) ⌝ }
+{
+    if d.element == d.component {
+        return false;
+    }
+    if d.element == d.terminator {
+        return false;
+    }
+    d.component != d.terminator
+}
+
+// No letter, digit or space.
+fn is_plain(b: u8) -> bool
+    ensures { λ r. ⌜ r ≡ plain b ⌝ }
+{
+    match b {
+        b'A'..=b'Z' | b'a'..=b'z' | b'0'..=b'9' | b' ' => false,
+        _ => true,
+    }
+}
+
+fn is_good_isa(i: &[u8], d: Delimiters) -> bool
+    ensures { λ r. ⌜ r ≡ goodISA d (isa (now (i .entry))) ⌝ }
+{
+    if !are_valid_fields(i, d) {
+        return false;
+    }
+    if !is_digits(isa_field(i, 13), 9, 9) {
+        return false;
+    }
+    is_usage(isa_field(i, 15))
+}
+
+fn are_valid_fields(i: &[u8], d: Delimiters) -> bool
+    ensures { λ r. ⌜ r ≡ all (all (valid d)) (isa (now (i .entry))) ⌝ }
+{
+    let mut n = 0;
+    while n < FIELDS {
+        if !all_valid(isa_field(i, n), d) {
+            return false;
+        }
+        n += 1;
+    }
+    true
+}
+
+// ISA15: production, test or information.
+fn is_usage(s: &[u8]) -> bool
+    ensures { λ r. ⌜ r ≡ member (now (s .entry)) (ascii "P" ∷ ascii "T" ∷ ascii "I" ∷ []) ⌝ }
+{
+    if same_bytes(s, b"P") {
+        return true;
+    }
+    if same_bytes(s, b"T") {
+        return true;
+    }
+    same_bytes(s, b"I")
+}
+
+fn separator(k: usize) -> usize
+    requires { ⌜ k < 16 ⌝ }
+    ensures { λ r. ⌜ r ≡ getD separators k 0 ⌝ }
+{
+    SEPARATORS[k]
+}
+
+// The byte at a place, 0 past the end.
+fn byte_at(i: &[u8], at: usize) -> u8
+    ensures { λ r. ⌜ r ≡ getD (now (i .entry)) at 0 ⌝ }
+{
+    if at < i.len() {
+        return i[at];
+    }
+    0
+}
+
+// The last byte, 0 where there is none.
+fn last_byte(i: &[u8]) -> u8
+    ensures { λ r. ⌜ r ≡ last 0 (now (i .entry)) ⌝ }
+{
+    if i.len() == 0 {
+        return 0;
+    }
+    i[i.len() - 1]
+}
