@@ -1,5 +1,5 @@
 -- The block of a set: its notes, its codes and its segments, as written, are those that document 01 reports of the set at a place.
-use mathlib.Core.Path.{_≡_, refl, sym, ap, _∙_}
+use mathlib.Core.Path.{_≡_, refl, sym, ap, _∙_, subst⁻¹}
 use mathlib.Core.Bool.{Bool, true, false, _&&_, not, Bool·not-not}
 use mathlib.Core.List.{List, [], _∷_, _++_, map}
 use mathlib.Core.Option.{Option, none, some}
@@ -8,8 +8,8 @@ use native.Mathlib.Omega.{arith}
 use borrow.Author.Tests.{ne-eqb}
 use lib.Dec.{eqb}
 use lib.ListN.{length, take, drop, length-append, length-take, length-drop}
-use Rattle.rules.specs.Base.{Bytes, _⇒_, every, ascii, null, any, isNone, same, member, if_then_else_}
-use Rattle.rules.specs.Cutting.{field, split, segments}
+use Rattle.rules.specs.Base.{Bytes, _⇒_, every, ascii, null, any, isNone, member, if_then_else_}
+use Rattle.rules.specs.Cutting.{Segment, field, split, segments}
 use Rattle.rules.specs.Numbers.{decimal}
 use Rattle.rules.specs.Tables.{Table}
 use Rattle.tables.specs.Rows.{tableOf}
@@ -18,9 +18,13 @@ use Rattle.rules.specs.Sets.{Set, SetReport, segmentsOf, controlOf, notesIn, se
 use Rattle.rules.specs.Response.{fieldsOut, segmentOut, out, ak2, ak3, ak3s, ak5, block}
 use Rattle.rules.specs.declared.Delimiters.{Delimiters}
 use Rattle.tables.specs.Reading.{Guide, Limits}
-use Rattle.guides.specs.Encoded.{directoryRows}
-use Rattle.text.specs.Text.{indexOf}
+use Rattle.guides.specs.Choice.{isThere, placeOf, tableAt}
+use Rattle.guides.specs.declared.Scope.{Scope}
+use Rattle.guides.specs.declared.TableAt.{TableAt}
+use Rattle.guides.specs.declared.TableAt.the-variants.{Rows, Nowhere}
+use Rattle.text.specs.Text.{indexOf, part}
 use Rattle.segments.proofs.Pieces.{segments-at}
+use Rattle.sets.specs.Places.{setAt}
 use Rattle.sets.specs.declared.SetAt.{SetAt}
 use Rattle.sets.proofs.Sets.{SetIs, setIn, header-at}
 use Rattle.verdicts.specs.Collecting.{codesOf, collected}
@@ -38,8 +42,10 @@ use Rattle.writing.proofs.Laws.{whole}
 use Rattle.writing.proofs.Segments.{one, then as next}
 use Rattle.notes.specs.Saying.{Tells}
 use Rattle.notes.specs.declared.Told.{Told}
-use Rattle.acknowledgment.specs.Writers.{TellsFrom, Measures, tableWith}
-use Rattle.acknowledgment.specs.Surveys.{setHere, acceptance}
+use Rattle.acknowledgment.specs.Writers.{TellsFrom, Measures}
+use Rattle.acknowledgment.specs.Received.{tableBy, Scoped, receivedAt, setOf, reportOf, ReceivedIs}
+use Rattle.acknowledgment.specs.declared.set_block.ReceivedSet.{ReceivedSet}
+use Rattle.acknowledgment.specs.Surveys.{setHere, reportAt, markOf, acceptance}
 
 -- 1. The parts of a set.
 -- These are the bytes of a set of n segments, of its header and, where it is closed, of its trailer.
@@ -113,13 +119,10 @@ are-notes [] e = rw e
 are-notes (n ∷ ns) {m} e = ap not (ne-eqb m 0 (λ k. omega arith))
 
 -- 3. The report of a set.
--- the table of a set where it is supported
-abbrev tableIf : Bool → Table → Option Table
-tableIf supported t = if supported then some t else none
-
-has-table : (supported : Bool) (t : Table) → supported ≡ not (isNone (tableIf supported t))
-has-table true t = refl
-has-table false t = refl
+-- what stands nowhere is no table
+pub there-is : (ids : List (List ℕ)) (rows : Guide) (t : TableAt) → isThere t ≡ not (isNone (tableAt ids rows t))
+there-is ids rows (Rows from end) = refl
+there-is ids rows Nowhere = refl
 
 -- a set with a number of its own has no code where it has none without its notes, and no notes
 notes-reject : (t : Option Table) (ns : List Note) (s : Set) → null (setCodes t ns [] s) ≡ null (setCodes t [] [] s) && null ns
@@ -136,66 +139,87 @@ notes-reject t ns s =
     go false false false false true = refl
     go false false false false false = refl
 
-module _ {d : Delimiters} {s : Set} {closed : Bool} {n : ℕ} {bs st se : Bytes} (parts : Parts d s closed n bs st se)
-    {rows : Guide} (limits : Limits rows) where
-  abbrev notes : Bool → List Note
-  notes supported = notesIn d (tableIf supported (tableOf directoryRows rows)) s
+-- a set without a table has a code
+pub nowhere-rejects : (d : Delimiters) (s : Set) → false ≡ accepted (setReport d none [] s)
+unfolding setReport setCodes every
+nowhere-rejects d s = refl
 
-  -- the events of a walk through the set are its notes
-  events-are : events (left bs d directoryRows rows closed start) ≡ flat (notes true)
-  events-are =
-      rw (walk-notes bs d directoryRows rows closed limits (parts .short) (sym (parts .whole)), ← parts .trailer, ← closed-if closed (split (d .element) se), Bool·not-not closed)
+module _ {d : Delimiters} {s : Set} {closed : Bool} {n : ℕ} {bs st se : Bytes} (parts : Parts d s closed n bs st se) where
+  -- the codes by the parts of a set are its codes
+  pub codes-are : {codes : Codes} {there noted repeated : Bool}
+      → codes ≡ collected (setCodeRules (record { supported = there; closed = closed; segments = n; noted = noted; repeated = repeated }) (split (d .element) st) (trailerIf closed (split (d .element) se)))
+      → (t : Option Table) (ns : List Note) (earlier : List Bytes) → there ≡ not (isNone t) → noted ≡ not (null ns)
+      → repeated ≡ member (controlOf s) earlier → codesOf codes ≡ setCodes t ns earlier s
+  codes-are f t ns earlier p e g = rw f (set-codes t ns earlier s _ p (parts .header) (parts .trailer) (parts .counted) e g)
 
-  -- what the walk says is its notes
-  notes-are : (supported : Bool) → (if supported then map written (events (left bs d directoryRows rows closed start)) else []) ≡ ak3s (notes supported)
-  unfolding ak3s
-  notes-are true = rw events-are (written-flat _)
-  notes-are false = refl
+  module _ (ids : List (List ℕ)) {rows : Guide} (limits : Limits rows) where
+    abbrev notes : List Note
+    notes = notesIn d (some (tableOf ids rows)) s
 
-  -- the codes as collected by the parts
-  abbrev codesBy : Bool → Bool → Bool → Codes
-  codesBy supported noted repeated =
-      collected (setCodeRules supported (split (d .element) st) (trailerIf closed (split (d .element) se)) n noted repeated)
+    -- the events of a walk through the set are its notes
+    events-are : events (left bs d ids rows closed start) ≡ flat notes
+    events-are =
+        rw (walk-notes bs d ids rows closed limits (parts .short) (sym (parts .whole)), ← parts .trailer, ← closed-if closed (split (d .element) se), Bool·not-not closed)
 
-  -- are the set's
-  codes-are : (supported : Bool) (ns : List Note) (earlier : List Bytes) {codes : Codes} {noted repeated : Bool} → noted ≡ not (null ns)
-      → repeated ≡ member (controlOf s) earlier → codes ≡ codesBy supported noted repeated
-      → codesOf codes ≡ setCodes (tableIf supported (tableOf directoryRows rows)) ns earlier s
-  codes-are supported ns earlier e g f =
-      rw f (set-codes _ ns earlier s (has-table supported (tableOf directoryRows rows)) (parts .header) (parts .trailer) (parts .counted) e g)
+    -- what the walk says is its notes
+    pub notes-are : map written (events (left bs d ids rows closed start)) ≡ ak3s notes
+    notes-are = rw events-are (written-flat _)
 
-  -- no code but 5 and 23, and no note
-  clean-by : (supported : Bool) {fine r : Bool} {codes : Codes} → codes ≡ codesBy supported false false → fine ≡ null (codesOf codes)
-      → r ≡ fine && not (not (null (events (left bs d directoryRows rows closed start))))
-      → r ≡ null (setCodes (tableIf supported (tableOf directoryRows rows)) (notes supported) [] s)
-  unfolding setCodes every any
-  clean-by true f g h =
-      h
-      ∙ rw (g, codes-are true [] [] refl refl f, events-are, null-flat (notes true), Bool·not-not (null (notes true)))
-      (sym (notes-reject (some (tableOf directoryRows rows)) (notes true) s))
-  clean-by false f g h = h ∙ rw (g, codes-are false [] [] refl refl f)
+    -- no code but 5 and 23, and no note
+    pub clean-is : (codes : Codes) {fine r : Bool} → codesOf codes ≡ setCodes (some (tableOf ids rows)) [] [] s → fine ≡ null (codesOf codes)
+        → r ≡ fine && not (not (null (events (left bs d ids rows closed start))))
+        → r ≡ accepted (setReport d (some (tableOf ids rows)) [] s)
+    unfolding setReport
+    clean-is codes f g h =
+        h
+        ∙ rw (g, f, events-are, null-flat notes, Bool·not-not (null notes))
+        (sym (notes-reject (some (tableOf ids rows)) notes s))
 
-  -- whether a set has no code, where its number is new
-  pub clean-is : (known : Bool) {supported fine r : Bool} {codes : Codes}
-      → supported ≡ known && same (field (split (d .element) st) 1) (ascii "990")
-      → codes ≡ codesBy supported false false → fine ≡ null (codesOf codes)
-      → r ≡ fine && not (not (null (events (left bs d directoryRows rows closed start))))
-      → r ≡ accepted (setReport d (tableWith known rows s) [] s)
-  unfolding setReport
-  clean-is known {supported} e f g h = let which = rw (parts .header) at e in rw (← which) (clean-by supported f g h)
+-- what is written of a set is the block of its report
+pub block-of : {d : Delimiters} (st : Bytes) (s : Set) (t : Option Table) (earlier : List Bytes) (codes : Codes) {told : Told} {k l m : ℕ} {o o₁ o₂ o₃ : Bytes}
+    → split (d .element) st ≡ s .header
+    → From 0 (segmentOut d (ascii "AK2" ∷ field (split (d .element) st) 1 ∷ field (split (d .element) st) 2 ∷ [])) k o o₁
+    → TellsFrom k d (ak3s (notesIn d t s)) told o₁ o₂
+    → (not (eqb (told .segments) 0) ≡ not (null (notesIn d t s)) → codesOf codes ≡ setCodes t (notesIn d t s) earlier s)
+    → From (told .length) (segmentOut d (ascii "AK5" ∷ (if null (codesOf codes) then ascii "A" else ascii "R") ∷ map decimal (codesOf codes))) l o₂ o₃
+    → m ≡ sat (told .segments + 2)
+    → Tells d (block (setReport d t earlier s)) (record { length = l; segments = m }) o o₃
+unfolding setReport ak2 ak5
+block-of {d} st s t earlier codes h a tells f c g =
+    block-written _ (rw h at a) tells (rw (f (are-notes (notesIn d t s) (tells .number))) at c) g
 
-  -- what is written of a set by its parts is the block of its report
-  pub block-of : (known : Bool) (earlier : List Bytes) {supported repeated : Bool} {codes : Codes} {told : Told} {k l m : ℕ} {o o₁ o₂ o₃ : Bytes}
-      → supported ≡ known && same (field (split (d .element) st) 1) (ascii "990")
-      → From 0 (segmentOut d (ascii "AK2" ∷ field (split (d .element) st) 1 ∷ field (split (d .element) st) 2 ∷ [])) k o o₁
-      → TellsFrom k d (if supported then map written (events (left bs d directoryRows rows closed start)) else []) told o₁ o₂
-      → codes ≡ codesBy supported (not (eqb (told .segments) 0)) repeated
-      → From (told .length) (segmentOut d (ascii "AK5" ∷ (if null (codesOf codes) then ascii "A" else ascii "R") ∷ map decimal (codesOf codes))) l o₂ o₃
-      → m ≡ sat (told .segments + 2) → repeated ≡ member (controlOf s) earlier
-      → Tells d (block (setReport d (tableWith known rows s) earlier s)) (record { length = l; segments = m }) o o₃
-  unfolding setReport ak2 ak5
-  block-of known earlier {supported} {codes = codes} e a b f c g r =
-      let tells = rw (notes-are supported) at b in
-      let same-codes = codes-are supported (notes supported) earlier (are-notes (notes supported) (tells .number)) r f in
-      let which = rw (parts .header) at e in
-      rw (← which) (block-written _ (rw (parts .header) at a) tells (rw same-codes at c) g)
+-- 4. A set as received.
+-- it stands where it starts
+pub at-start : {d : Delimiters} {body : Bytes} {at : ℕ} {r : SetAt} → SetIs d body at r → SetIs d body (r .start) r
+at-start {d} {body} {r = r} is = subst⁻¹ (λ (x : ℕ). SetIs d body x r) (is .starts) is
+
+module _ {d : Delimiters} {body : Bytes} {at : ℕ} {place : SetAt} (q : place ≡ setAt d body at) (is : SetIs d body at place) where
+  pub received-is : {rows : Guide} {set : ReceivedSet} (scope : Scope) (repeated : Bool) → set ≡ receivedAt d scope body place repeated → Scoped rows scope
+      → ReceivedIs d body rows set
+  received-is scope repeated e tables = rw e (record { is = at-start is; stands = tables _ })
+
+  -- it has the report of the set at its place
+  report-received : (ids : List (List ℕ)) (rows : Guide) (scope : Scope) (repeated : Bool) (earlier : List Bytes)
+      → reportOf d ids rows body (receivedAt d scope body place repeated) earlier ≡ reportAt d (tableBy ids rows scope) body at earlier
+  report-received ids rows scope repeated earlier =
+      ap (λ (x : ℕ). setReport d (tableAt ids rows (placeOf scope (field (split (d .element) (part body x (place .header))) 1))) earlier (setIn d body x place)) (is .starts)
+      ∙ ap (λ (h : Segment). setReport d (tableAt ids rows (placeOf scope (field h 1))) earlier (setIn d body at place)) (sym (is .header))
+      ∙ ap (λ (r : SetAt). setReport d (tableBy ids rows scope (setIn d body at r)) earlier (setIn d body at r)) q
+
+  module _ (ids : List (List ℕ)) (rows : Guide) (scope : Scope) (repeated : Bool) {set : ReceivedSet} (e : set ≡ receivedAt d scope body place repeated) where
+    -- its mark is by that report
+    pub mark-received : {m : ℕ} → m ≡ markOf (set .repeated) (reportOf d ids rows body set [])
+        → m ≡ markOf repeated (reportAt d (tableBy ids rows scope) body at [])
+    mark-received f = rw (← report-received ids rows scope repeated []) (rw e at f)
+
+    -- what is written of it, or measured, is the block of that report
+    pub block-received : (earlier : List Bytes) {r : Told} {o o′ : Bytes}
+        → (set .repeated ≡ member (controlOf (setOf d body set)) earlier → Tells d (block (reportOf d ids rows body set earlier)) r o o′)
+        → repeated ≡ member (controlOf (setHere d body at)) earlier
+        → Tells d (block (reportAt d (tableBy ids rows scope) body at earlier)) r o o′
+    block-received earlier w k =
+        let used : repeated ≡ member (controlOf (setIn d body (place .start) place)) earlier =
+        k
+        ∙ ap (λ (r : SetAt). member (controlOf (setIn d body at r)) earlier) (sym q)
+        ∙ ap (λ (x : ℕ). member (controlOf (setIn d body x place)) earlier) (sym (is .starts)) in
+        rw (← report-received ids rows scope repeated earlier) ((rw e at w) used)

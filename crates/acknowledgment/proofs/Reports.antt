@@ -19,7 +19,7 @@ use Rattle.rules.proofs.Logic.{Silent}
 use Rattle.segments.proofs.Pieces.{segments-none}
 use Rattle.sets.specs.Places.{setAt, controlAt, controlsAt}
 use Rattle.sets.proofs.Sets.{SetIs}
-use Rattle.acknowledgment.specs.Surveys.{setHere, reportAt, reports, left, markOf, Marked, acceptance}
+use Rattle.acknowledgment.specs.Surveys.{reportAt, reports, remaining, markOf, acceptance}
 
 -- 1. A report asks of the ST02s before it only which they are: their order makes no difference.
 report-same : (d : Delimiters) (t : Option Table) (es fs : List Bytes) (s : Set) → member (controlOf s) es ≡ member (controlOf s) fs
@@ -50,19 +50,19 @@ reports-last d table e es ss = reports-same d table (e ∷ es) (es ++ e ∷ []) 
 
 -- 2. The reports from a place on.
 module _ (d : Delimiters) (table : Set → Option Table) (body : Bytes) where
-  pub left-all : left d table body [] 0 ≡ reports d table body
-  unfolding left controlsAt
-  left-all = refl
+  pub remaining-all : remaining d table body [] 0 ≡ reports d table body
+  unfolding remaining controlsAt
+  remaining-all = refl
 
-  pub left-none : (before : List ℕ) (at : ℕ) → length body ≤ at → left d table body before at ≡ []
-  unfolding left setReports setsOf
-  left-none before at h = rw (segments-none d body at h)
+  pub remaining-none : (before : List ℕ) (at : ℕ) → length body ≤ at → remaining d table body before at ≡ []
+  unfolding remaining setReports setsOf
+  remaining-none before at h = rw (segments-none d body at h)
 
   -- the set at the place has the first, and it is one of those before the others
-  pub left-next : (before : List ℕ) (at : ℕ) → SetIs d body at (setAt d body at)
-      → left d table body before at ≡ reportAt d table body at (controlsAt d body before) ∷ left d table body (before ++ at ∷ []) (setAt d body at .end)
-  unfolding left setReports controlsAt
-  left-next before at i =
+  pub remaining-next : (before : List ℕ) (at : ℕ) → SetIs d body at (setAt d body at)
+      → remaining d table body before at ≡ reportAt d table body at (controlsAt d body before) ∷ remaining d table body (before ++ at ∷ []) (setAt d body at .end)
+  unfolding remaining setReports controlsAt
+  remaining-next before at i =
       rw (
         i .first,
         map-append (controlAt d body) before (at ∷ []),
@@ -124,28 +124,25 @@ mark-repeats repeated r m = rw m (go repeated (accepted r))
     go false true = refl
     go false false = refl
 
-module _ (d : Delimiters) (table : Set → Option Table) (body : Bytes) (at : ℕ) (earlier : List Bytes) {mark : ℕ}
-    (m : Marked d table body at earlier mark) where
-  abbrev here : Set
-  here = setHere d body at
-
-  pub mark-accepts : eqb mark 0 ≡ accepted (reportAt d table body at earlier)
+module _ (d : Delimiters) (t : Option Table) (s : Set) (earlier : List Bytes) {mark : ℕ}
+    (m : mark ≡ markOf (member (controlOf s) earlier) (setReport d t [] s)) where
+  pub mark-accepts : eqb mark 0 ≡ accepted (setReport d t earlier s)
   unfolding markOf any
-  mark-accepts = rw m (go (member (controlOf here) earlier) refl)
+  mark-accepts = rw m (go (member (controlOf s) earlier) refl)
     where
       by-codes : (b : Bool) → eqb (byCodes b) 0 ≡ b
       by-codes true = refl
       by-codes false = refl
 
-      used : (b : Bool) → accepted (reportAt d table body at earlier) ≡ b → member (controlOf here) earlier ≡ true → false ≡ b
-      used true e f = sym (clean-new d (table here) earlier here e) ∙ f
+      used : (b : Bool) → accepted (setReport d t earlier s) ≡ b → member (controlOf s) earlier ≡ true → false ≡ b
+      used true e f = sym (clean-new d t earlier s e) ∙ f
       used false e f = refl
 
-      go : (b : Bool) → member (controlOf here) earlier ≡ b
-          → eqb (if b then 2 else byCodes (accepted (reportAt d table body at []))) 0 ≡ accepted (reportAt d table body at earlier)
+      go : (b : Bool) → member (controlOf s) earlier ≡ b
+          → eqb (if b then 2 else byCodes (accepted (setReport d t [] s))) 0 ≡ accepted (setReport d t earlier s)
       go true e = used _ refl e
-      go false e = by-codes _ ∙ ap accepted (report-same d (table here) [] earlier here (sym e))
+      go false e = by-codes _ ∙ ap accepted (report-same d t [] earlier s (sym e))
 
   -- the block of a set that is marked as accepted
-  pub mark-block : mark ≡ 0 → block (reportAt d table body at earlier) ≡ acceptance here
-  mark-block e = clean-block d (table here) earlier here (sym mark-accepts ∙ rw e)
+  pub mark-block : mark ≡ 0 → block (setReport d t earlier s) ≡ acceptance s
+  mark-block e = clean-block d t earlier s (sym mark-accepts ∙ rw e)

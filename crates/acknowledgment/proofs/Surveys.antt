@@ -10,10 +10,10 @@ use borrow.Author.Count.{below-none, below-more}
 use lib.Dec.{eqb}
 use lib.ListN.{length, take, drop, getD, set, replicate, length-set}
 use lib.Seq.{take-suc-set, take-set-le, getD-set-same, getD-set-other}
-use Rattle.rules.specs.Base.{Bytes, keep, if_then_else_}
+use Rattle.rules.specs.Base.{Bytes, member, keep, if_then_else_}
 use Rattle.rules.specs.Cutting.{Segment, field, split, segments}
 use Rattle.rules.specs.Tables.{Table}
-use Rattle.rules.specs.Sets.{Set, SetReport, setsOf, outside, accepted}
+use Rattle.rules.specs.Sets.{Set, SetReport, setsOf, outside, controlOf, accepted}
 use Rattle.rules.specs.Groups.{acceptedIn}
 use Rattle.rules.specs.Response.{block}
 use Rattle.rules.specs.declared.Delimiters.{Delimiters}
@@ -21,6 +21,7 @@ use Rattle.rules.proofs.Lengths.{either}
 use Rattle.rules.proofs.Facts.{reports-count}
 use Rattle.text.specs.Text.{part}
 use Rattle.tables.specs.Reading.{Guide}
+use Rattle.guides.specs.declared.Scope.{Scope}
 use Rattle.segments.proofs.Pieces.{segments-none}
 use Rattle.sets.specs.Places.{setAt, controlAt, controlsAt}
 use Rattle.sets.specs.declared.SetAt.{SetAt}
@@ -33,8 +34,8 @@ use Rattle.register.proofs.Entered.{Entered, entered-none, entered-finds, enter
 use Rattle.writing.specs.Over.{sat}
 use Rattle.notes.specs.declared.Told.{Told}
 use Rattle.acknowledgment.specs.Writers.{Measures}
-use Rattle.acknowledgment.specs.Surveys.{Room, EnteredNext, reportAt, reports, left, markOf, Marked, Seen, Surveyed, Open}
-use Rattle.acknowledgment.proofs.Reports.{left-all, left-none, left-next, drop-next, mark-accepts}
+use Rattle.acknowledgment.specs.Surveys.{Room, EnteredNext, setHere, reportAt, reports, remaining, markOf, Marked, Seen, Surveyed, Open}
+use Rattle.acknowledgment.proofs.Reports.{remaining-all, remaining-none, remaining-next, drop-next, mark-accepts}
 use Rattle.acknowledgment.proofs.Turns.{Sofar, sofar-end, sofar-measured, seen-next}
 
 -- 1. A set is entered.
@@ -65,6 +66,11 @@ pub control-here : {d : Delimiters} {body st control : Bytes} {at : ℕ} {r : Se
 control-here {d} is p f =
     f ∙ ap (λ (st : Bytes). field (split (d .element) st) 2) p ∙ ap (λ (st : Segment). field st 2) (sym (is .header)) ∙ is .control
 
+-- a set is entered where it starts
+pub entered-at : {d : Delimiters} {body : Bytes} {at : ℕ} {r : SetAt} {starts starts′ links : List ℕ} {k : ℕ} {q : Bool} → SetIs d body at r
+    → EnteredNext d body starts k (r .start) q starts′ links → EnteredNext d body starts k at q starts′ links
+entered-at is e = rw (is .starts) at e
+
 -- 2. The loop.
 -- one more where the first is accepted
 accepted-next : (r : SetReport) (rs : List SetReport) (a : ℕ) (b : Bool) → b ≡ accepted r
@@ -75,9 +81,9 @@ accepted-next r rs a false e = rw (← e)
 
 -- Of k sets, a are accepted; the next one starts at a place.
 pub record Seeing (d : Delimiters) (table : Set → Option Table) (body : Bytes) (starts marks links : List ℕ) (k a at : ℕ) : Type 0 where
-  pub rest : drop k (reports d table body) ≡ left d table body (take k starts) at
+  pub rest : drop k (reports d table body) ≡ remaining d table body (take k starts) at
   pub received : k + length (setsOf (segments d (drop at body))) ≡ length (setsOf (segments d body))
-  pub allowed : a + acceptedIn (left d table body (take k starts) at) ≡ acceptedIn (reports d table body)
+  pub allowed : a + acceptedIn (remaining d table body (take k starts) at) ≡ acceptedIn (reports d table body)
   pub clean : outside (segments d (drop at body)) ≡ false
   pub seen : (j : ℕ) → j < k → Seen d table body (take j starts) j (getD starts j 0) (getD marks j 0)
   pub entered : Entered d body starts links k
@@ -87,12 +93,12 @@ pub record Seeing (d : Delimiters) (table : Set → Option Table) (body : Bytes)
   pub marked : length marks ≡ 5462
   pub linked : length links ≡ 22872
 
-pub seeing-start : {d : Delimiters} (table : Set → Option Table) {body : Bytes} {rows : Guide} {starts marks : List ℕ} (links : List ℕ)
-    → Open d body rows starts marks → ((s : ℕ) → getD links s 0 ≡ 0) → length links ≡ 22872 → Seeing d table body starts marks links 0 0 0
+pub seeing-start : {d : Delimiters} (table : Set → Option Table) {body : Bytes} {rows : Guide} {scope : Scope} {starts marks : List ℕ} (links : List ℕ)
+    → Open d body rows scope starts marks → ((s : ℕ) → getD links s 0 ≡ 0) → length links ≡ 22872 → Seeing d table body starts marks links 0 0 0
 seeing-start {d} table {body} {starts = starts} {marks = marks} links o h l = record {
-  rest = sym (left-all d table body);
+  rest = sym (remaining-all d table body);
   received = omega arith;
-  allowed = rw (left-all d table body) (omega arith);
+  allowed = rw (remaining-all d table body) (omega arith);
   clean = o .passed .clean;
   seen = below-none _;
   entered = entered-none d body starts links h;
@@ -147,21 +153,24 @@ module _ {d : Delimiters} {table : Set → Option Table} {body : Bytes} {starts 
       (record { inside = h; clean = s .clean; rest = s .rest; marked = e })
 
   -- its mark is right after those before it
-  seeing-marked : {starts′ links′ : List ℕ} {repeated : Bool} {m : ℕ} → at < length body
+  pub seeing-marked : {starts′ links′ : List ℕ} {repeated : Bool} {m : ℕ} → at < length body
       → EnteredNext d body starts k at repeated starts′ links′ → m ≡ markOf repeated (reportAt d table body at [])
       → Marked d table body at (controlsAt d body (take k starts)) m
   seeing-marked h e f = rw (seeing-set h refl .control, ← e .repeated) f
 
+  -- its control number was used before or not
+  pub seeing-used : {starts′ links′ : List ℕ} {repeated : Bool} → at < length body → EnteredNext d body starts k at repeated starts′ links′
+      → repeated ≡ member (controlOf (setHere d body at)) (controlsAt d body (take k starts))
+  seeing-used h e = rw (seeing-set h refl .control) (e .repeated)
+
   -- its block is measured
-  pub seeing-measured : {starts′ links′ : List ℕ} {repeated : Bool} {m n l n′ l′ : ℕ} {told : Told} → at < length body
-      → EnteredNext d body starts k at repeated starts′ links′ → m ≡ markOf repeated (reportAt d table body at [])
-      → ((earlier : List Bytes) → Marked d table body at earlier m → Measures d (block (reportAt d table body at earlier)) told)
+  pub seeing-measured : {m n l n′ l′ : ℕ} {told : Told} → at < length body → Marked d table body at (controlsAt d body (take k starts)) m
+      → Measures d (block (reportAt d table body at (controlsAt d body (take k starts)))) told
       → n′ ≡ sat (n + told .length) → l′ ≡ sat (l + told .segments)
       → Sofar d (reports d table body) [] [] n l k → Sofar d (reports d table body) [] [] n′ l′ (k + 1)
-  seeing-measured {m = m} h e f w nn ll sofar =
-      let marked = seeing-marked h e f in
+  seeing-measured {m = m} h marked w nn ll sofar =
       let here : Seen d table body (take k starts) k at m = record { inside = h; clean = s .clean; rest = s .rest; marked = marked } in
-      sofar-measured sofar (seen-next here) (w _ marked) nn ll
+      sofar-measured sofar (seen-next here) w nn ll
 
   pub seeing-turn : {starts′ links′ : List ℕ} {repeated : Bool} {m a′ : ℕ} → at < length body
       → EnteredNext d body starts k at repeated starts′ links′ → m ≡ markOf repeated (reportAt d table body at [])
@@ -172,15 +181,15 @@ module _ {d : Delimiters} {table : Set → Option Table} {body : Bytes} {starts 
       let room = seeing-room i in
       let earlier = controlsAt d body (take k starts) in
       let marks-here = seeing-marked h e f in
-      let next = left-next d table body (take k starts) at i in
+      let next = remaining-next d table body (take k starts) at i in
       let more : take (k + 1) (set starts k at) ≡ take k starts ++ at ∷ [] = rw add-one (take-suc-set starts k at (omega (arith, s .places))) in
-      let onward = left d table body (take k starts ++ at ∷ []) (setAt d body at .end) in
+      let onward = remaining d table body (take k starts ++ at ∷ []) (setAt d body at .end) in
       record {
         rest = rw (e .stored, more) (drop-next k (reports d table body) _ _ (s .rest ∙ next));
         received = omega (arith, ap length (i .first), s .received);
         allowed =
             rw (e .stored, more, g)
-            (accepted-next (reportAt d table body at earlier) onward a (eqb m 0) (mark-accepts d table body at earlier marks-here) ∙ (rw next at (s .allowed)));
+            (accepted-next (reportAt d table body at earlier) onward a (eqb m 0) (mark-accepts d (table (setHere d body at)) (setHere d body at) earlier marks-here) ∙ (rw next at (s .allowed)));
         clean = sym (i .strays) ∙ s .clean;
         seen = rw (e .stored) (below-more _ k (seen-stays m) (seen-here m room h marks-here));
         entered = e .entered;
@@ -192,14 +201,14 @@ module _ {d : Delimiters} {table : Set → Option Table} {body : Bytes} {starts 
       }
 
   pub seeing-end : {n l : ℕ} → length body ≤ at → Sofar d (reports d table body) [] [] n l k
-      → Surveyed d table body starts marks (record { sets = k; accepted = a; length = n; segments = l })
+      → Surveyed d table body starts marks (record { sets = record { received = k; accepted = a }; blocks = record { length = n; segments = l } })
   unfolding setsOf keep
   seeing-end h sofar =
       let received : k ≡ length (setsOf (segments d body)) = omega (arith, rw (segments-none d body at h) at (s .received)) in
       record {
         received = received ∙ sym (reports-count d table [] (setsOf (segments d body)));
         measured = sofar-end sofar (omega (arith, received, reports-count d table [] (setsOf (segments d body))));
-        allowed = omega (arith, rw (left-none d table body (take k starts) at h) at (s .allowed));
+        allowed = omega (arith, rw (remaining-none d table body (take k starts) at h) at (s .allowed));
         stored = omega (arith, s .few, s .places);
         marked = omega (arith, s .few, s .marked);
         seen = s .seen;

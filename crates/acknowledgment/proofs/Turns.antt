@@ -22,7 +22,7 @@ use Rattle.notes.specs.Saying.{Tells}
 use Rattle.notes.specs.declared.Told.{Told}
 use Rattle.acknowledgment.specs.Writers.{Measures}
 use Rattle.acknowledgment.specs.Surveys.{reportAt, reports, Seen}
-use Rattle.acknowledgment.proofs.Reports.{left-next, drop-next}
+use Rattle.acknowledgment.proofs.Reports.{remaining-next, drop-next}
 
 -- The blocks of k sets are m segments of n bytes in all. The buffer was o and is o₁.
 pub record Sofar (d : Delimiters) (rs : List SetReport) (o o₁ : Bytes) (n m k : ℕ) : Type 0 where
@@ -71,13 +71,9 @@ module _ {d : Delimiters} {rs : List SetReport} {o o₁ : Bytes} {n m k : ℕ} (
         number = omega (arith, rw none at (s .number));
       }
 
--- what a writer says of an empty part is what its segments come to, and the other way round
+-- what a writer says of an empty part is what its segments come to
 pub measures : {d : Delimiters} {ss : List Segment} {r : Told} {p : Bytes} → Tells d ss r [] p → Measures d ss r
 measures w = record { text = record { count = w .text .count; bytes = sym (over-nil _) }; number = w .number }
-
-pub measured-none : {d : Delimiters} {ss : List Segment} {r : Told} (o : Bytes) → length o ≡ 0 → Measures d ss r → Tells d ss r o o
-measured-none [] e m = m
-measured-none (x ∷ o) e m = absurd (omega arith)
 
 -- a turn that only measures
 pub sofar-measured : {d : Delimiters} {rs : List SetReport} {n m k n′ m′ : ℕ} {one : SetReport} {b : Told} → Sofar d rs [] [] n m k
@@ -91,5 +87,5 @@ module _ {d : Delimiters} {table : Set → Option Table} {body : Bytes} {before 
 
   pub seen-next : drop k (reports d table body) ≡ reportAt d table body at (controlsAt d body before) ∷ drop (k + 1) (reports d table body)
   seen-next =
-      let e = s .rest ∙ left-next d table body before at seen-set in
+      let e = s .rest ∙ remaining-next d table body before at seen-set in
       rw (drop-next k (reports d table body) _ _ e) e

@@ -1,2 +1,3 @@
 pub mod Writers
+pub mod Received
 pub mod Surveys

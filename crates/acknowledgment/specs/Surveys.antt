@@ -12,14 +12,16 @@ use Rattle.rules.specs.Sets.{Set, SetReport, setsOf, outside, controlOf, setRep
 use Rattle.rules.specs.Groups.{setReports, acceptedIn}
 use Rattle.rules.specs.Response.{blocks}
 use Rattle.rules.specs.declared.Delimiters.{Delimiters}
-use Rattle.tables.specs.Reading.{Guide, Limits}
+use Rattle.tables.specs.Reading.{Guide}
+use Rattle.guides.specs.declared.Scope.{Scope}
 use Rattle.sets.specs.Places.{setAt, controlAt, controlsAt}
 use Rattle.sets.proofs.Sets.{setIn}
 use Rattle.sets.proofs.Refused.{Passed}
 use Rattle.register.specs.Trees.{slotOf}
 use Rattle.register.proofs.Entered.{Entered}
-use Rattle.acknowledgment.specs.declared.Survey.{Survey}
+use Rattle.acknowledgment.specs.declared.survey.Survey.{Survey}
 use Rattle.acknowledgment.specs.Writers.{Measures}
+use Rattle.acknowledgment.specs.Received.{Scoped}
 
 -- 1. A set is entered among those before it.
 -- There is room for set k, which starts at a place.
@@ -47,8 +49,8 @@ abbrev pub reports : Delimiters → (Set → Option Table) → Bytes → List Se
 reports d table body = setReports d table [] (setsOf (segments d body))
 
 -- the reports of the sets from a place on; those before it start at these places
-unfoldable pub left : Delimiters → (Set → Option Table) → Bytes → List ℕ → ℕ → List SetReport
-left d table body before at = setReports d table (controlsAt d body before) (setsOf (segments d (drop at body)))
+unfoldable pub remaining : Delimiters → (Set → Option Table) → Bytes → List ℕ → ℕ → List SetReport
+remaining d table body before at = setReports d table (controlsAt d body before) (setsOf (segments d (drop at body)))
 
 -- 3. Marks.
 -- by whether a set's number was used before, and its report where it was not
@@ -67,22 +69,22 @@ acceptance s = (ascii "AK2" ∷ field (s .header) 1 ∷ controlOf s ∷ []) ∷ 
 pub record Seen (d : Delimiters) (table : Set → Option Table) (body : Bytes) (before : List ℕ) (k at mark : ℕ) : Type 0 where
   pub inside : at < length body
   pub clean : outside (segments d (drop at body)) ≡ false
-  pub rest : drop k (reports d table body) ≡ left d table body before at
+  pub rest : drop k (reports d table body) ≡ remaining d table body before at
   pub marked : Marked d table body at (controlsAt d body before) mark
 
 -- All sets of a group were looked at.
 pub record Surveyed (d : Delimiters) (table : Set → Option Table) (body : Bytes) (starts marks : List ℕ) (r : Survey) : Type 0 where
-  pub received : r .sets ≡ length (reports d table body)
-  pub allowed : r .accepted ≡ acceptedIn (reports d table body)
-  pub measured : Measures d (blocks (reports d table body)) (record { length = r .length; segments = r .segments })
-  pub stored : r .sets ≤ length starts
-  pub marked : r .sets ≤ length marks
-  pub seen : (k : ℕ) → k < r .sets → Seen d table body (take k starts) k (getD starts k 0) (getD marks k 0)
+  pub received : r .sets .received ≡ length (reports d table body)
+  pub allowed : r .sets .accepted ≡ acceptedIn (reports d table body)
+  pub measured : Measures d (blocks (reports d table body)) (r .blocks)
+  pub stored : r .sets .received ≤ length starts
+  pub marked : r .sets .received ≤ length marks
+  pub seen : (k : ℕ) → k < r .sets .received → Seen d table body (take k starts) k (getD starts k 0) (getD marks k 0)
 
 -- The sets of a group can be looked at.
-pub record Open (d : Delimiters) (body : Bytes) (rows : Guide) (starts marks : List ℕ) : Type 0 where
+pub record Open (d : Delimiters) (body : Bytes) (rows : Guide) (scope : Scope) (starts marks : List ℕ) : Type 0 where
   pub passed : Passed d (segments d body)
   pub short : length body ≤ 65536
-  pub limits : Limits rows
+  pub tables : Scoped rows scope
   pub places : length starts ≡ 5462
   pub marked : length marks ≡ 5462

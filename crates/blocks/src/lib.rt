@@ -4,9 +4,13 @@ ghost use mathlib.Core.List.{[], _∷_, map};
 ghost use Rattle.rules.specs.Base.{ascii, null, if_then_else_};
 ghost use Rattle.rules.specs.Numbers.{decimal};
 ghost use Rattle.rules.specs.Cutting.{field, split};
-ghost use Rattle.rules.specs.Response.{segmentOut, stOut, seOut};
+ghost use Rattle.rules.specs.Response.{fieldsOut, segmentOut, stOut, seOut};
+ghost use Rattle.verdicts.specs.Collecting.{codesOf};
+ghost use Rattle.verdicts.specs.Verdicts.{summaryOut};
 ghost use Rattle.writing.specs.Over.{From};
 use rules::Delimiters;
+use verdicts::Codes;
+use verdicts::Summary;
 
 // ST of a 997.
 pub fn add_st(out: &mut [u8], n: usize, d: Delimiters, st02: &[u8]) -> usize
@@ -33,41 +37,42 @@ pub fn add_ak2(out: &mut [u8], n: usize, d: Delimiters, st: &[u8]) -> usize
     writing::add_pair(out, n, d, &rules::AK2, st01, st02)
 }
 
-fn verdict_of(codes: &[u8]) -> u8
-    ensures { λ r. ⌜ (r ∷ []) ≡ (if null (now (codes .entry)) then ascii "A" else ascii "R") ⌝ }
+fn verdict_of(codes: Codes) -> u8
+    ensures { λ r. ⌜ (r ∷ []) ≡ (if null (codesOf codes) then ascii "A" else ascii "R") ⌝ }
 {
-    if codes.len() == 0 { b'A' } else { b'R' }
+    if codes.is_empty() { b'A' } else { b'R' }
+}
+
+// Codes as elements.
+fn add_codes(out: &mut [u8], n: usize, d: Delimiters, codes: Codes) -> usize
+    ensures { λ r. ⌜ From n (fieldsOut d (map decimal (codesOf codes))) r (now (out .entry)) (now (out .exit)) ⌝ }
+{
+    let list = codes.list;
+    let count = codes.count;
+    writing::add_codes(out, n, d, text::part(&list, 0, count))
 }
 
 // AK5: accepted without codes, else rejected.
-pub fn add_ak5(out: &mut [u8], n: usize, d: Delimiters, codes: &[u8]) -> usize
-    ensures { λ r. ⌜ From n (segmentOut d (ascii "AK5" ∷ (if null (now (codes .entry)) then ascii "A" else ascii "R") ∷ map decimal (now (codes .entry)))) r (now (out .entry)) (now (out .exit)) ⌝ }
+pub fn add_ak5(out: &mut [u8], n: usize, d: Delimiters, codes: Codes) -> usize
+    ensures { λ r. ⌜ From n (segmentOut d (ascii "AK5" ∷ (if null (codesOf codes) then ascii "A" else ascii "R") ∷ map decimal (codesOf codes))) r (now (out .entry)) (now (out .exit)) ⌝ }
 {
     let n = writing::add_bytes(out, n, &rules::AK5);
     let n = writing::add_single(out, n, d, verdict_of(codes));
-    let n = writing::add_codes(out, n, d, codes);
+    let n = add_codes(out, n, d, codes);
     writing::add_byte(out, n, d.terminator)
 }
 
-// AK9: the verdict on the group, its numbers of sets declared, received and accepted, and its codes.
-pub fn add_ak9(
-    out: &mut [u8],
-    n: usize,
-    d: Delimiters,
-    verdict: u8,
-    declared: u64,
-    received: usize,
-    allowed: usize,
-    codes: &[u8],
-) -> usize
-    ensures { λ r. ⌜ From n (segmentOut d (ascii "AK9" ∷ (verdict ∷ []) ∷ decimal declared ∷ decimal received ∷ decimal allowed ∷ map decimal (now (codes .entry)))) r (now (out .entry)) (now (out .exit)) ⌝ }
+// AK9: the verdict on the group, its numbers of sets included, received and accepted, and its codes.
+pub fn add_ak9(out: &mut [u8], n: usize, d: Delimiters, group: Summary) -> usize
+    ensures { λ r. ⌜ From n (segmentOut d (summaryOut group)) r (now (out .entry)) (now (out .exit)) ⌝ }
 {
+    let codes = group.codes;
     let n = writing::add_bytes(out, n, &rules::AK9);
-    let n = writing::add_single(out, n, d, verdict);
-    let n = writing::add_count(out, n, d, declared);
-    let n = writing::add_count(out, n, d, received as u64);
-    let n = writing::add_count(out, n, d, allowed as u64);
-    let n = writing::add_codes(out, n, d, codes);
+    let n = writing::add_single(out, n, d, group.verdict);
+    let n = writing::add_count(out, n, d, group.included);
+    let n = writing::add_count(out, n, d, group.received as u64);
+    let n = writing::add_count(out, n, d, group.allowed as u64);
+    let n = add_codes(out, n, d, codes);
     writing::add_byte(out, n, d.terminator)
 }
 

@@ -53,15 +53,6 @@ use Rattle.sets.proofs.set_refusal.Reads as sets-set-refusal
 use Rattle.register.proofs.search.Reads as register-search
 use Rattle.refusals.proofs.group_refusal.Reads as refusals-group-refusal
 use Rattle.refusals.proofs.check.Reads as refusals-check
-use Rattle.verdicts.proofs.Codes.is_empty.Reads as verdicts-Codes-is-empty
-use Rattle.verdicts.proofs.set_codes.Reads as verdicts-set-codes
-use Rattle.verdicts.proofs.edition_of.Reads as verdicts-edition-of
-use Rattle.verdicts.proofs.is_supported.Reads as verdicts-is-supported
-use Rattle.verdicts.proofs.is_load_response.Reads as verdicts-is-load-response
-use Rattle.verdicts.proofs.group_codes.Reads as verdicts-group-codes
-use Rattle.verdicts.proofs.declared_sets.Reads as verdicts-declared-sets
-use Rattle.verdicts.proofs.verdict.Reads as verdicts-verdict
-use Rattle.verdicts.proofs.allowed.Reads as verdicts-allowed
 use Rattle.tables.proofs.is_segment.Reads as tables-is-segment
 use Rattle.tables.proofs.is_element.Reads as tables-is-element
 use Rattle.tables.proofs.is_note.Reads as tables-is-note
@@ -77,8 +68,15 @@ use Rattle.tables.proofs.is_listed.Reads as tables-is-listed
 use Rattle.tables.proofs.id_at.Reads as tables-id-at
 use Rattle.tables.proofs.is_known.Reads as tables-is-known
 use Rattle.guides.proofs.directory.Reads as guides-directory
-use Rattle.guides.proofs.guide_006010.Reads as guides-guide-006010
-use Rattle.guides.proofs.guide_004010.Reads as guides-guide-004010
+use Rattle.guides.proofs.rows.Reads as guides-rows
+use Rattle.guides.proofs.Edition.has_tables.Reads as guides-Edition-has-tables
+use Rattle.guides.proofs.scope_of.Reads as guides-scope-of
+use Rattle.guides.proofs.TableAt.is_there.Reads as guides-TableAt-is-there
+use Rattle.guides.proofs.table_of.Reads as guides-table-of
+use Rattle.verdicts.proofs.Codes.none.Reads as verdicts-Codes-none
+use Rattle.verdicts.proofs.Codes.is_empty.Reads as verdicts-Codes-is-empty
+use Rattle.verdicts.proofs.set_codes.Reads as verdicts-set-codes
+use Rattle.verdicts.proofs.summary_of.Reads as verdicts-summary-of
 use Rattle.elements.proofs.next_code.Reads as elements-next-code
 use Rattle.elements.proofs.is_clean.Reads as elements-is-clean
 use Rattle.findings.proofs.start.Reads as findings-start
@@ -273,34 +271,6 @@ refusals-group-refusal-once = ((λ κs a. tt), λ κs a r₁ r₂ s₁ s₂ p q.
 refusals-check-once : Determined refusals-check.Pre refusals-check.Post (λ κs r s. r)
 refusals-check-once = ((λ κs a. tt), λ κs a r₁ r₂ s₁ s₂ p q. p ∙ sym q)
 
--- verdicts
-verdicts-Codes-is-empty-once : Determined verdicts-Codes-is-empty.Pre verdicts-Codes-is-empty.Post (λ κs r s. r)
-verdicts-Codes-is-empty-once = ((λ κs a. tt), λ κs a r₁ r₂ s₁ s₂ p q. p ∙ sym q)
-
-verdicts-set-codes-once : Determined verdicts-set-codes.Pre verdicts-set-codes.Post (λ κs r s. r)
-verdicts-set-codes-once = ((λ κs a. tt), λ κs a r₁ r₂ s₁ s₂ p q. p ∙ sym q)
-
-verdicts-edition-of-once : Determined verdicts-edition-of.Pre verdicts-edition-of.Post (λ κs r s. r)
-verdicts-edition-of-once = ((λ κs a. tt), λ κs a r₁ r₂ s₁ s₂ p q. p ∙ sym q)
-
-verdicts-is-supported-once : Determined verdicts-is-supported.Pre verdicts-is-supported.Post (λ κs r s. r)
-verdicts-is-supported-once = ((λ κs a. tt), λ κs a r₁ r₂ s₁ s₂ p q. p ∙ sym q)
-
-verdicts-is-load-response-once : Determined verdicts-is-load-response.Pre verdicts-is-load-response.Post (λ κs r s. r)
-verdicts-is-load-response-once = ((λ κs a. tt), λ κs a r₁ r₂ s₁ s₂ p q. p ∙ sym q)
-
-verdicts-group-codes-once : Determined verdicts-group-codes.Pre verdicts-group-codes.Post (λ κs r s. r)
-verdicts-group-codes-once = ((λ κs a. tt), λ κs a r₁ r₂ s₁ s₂ p q. p ∙ sym q)
-
-verdicts-declared-sets-once : Determined verdicts-declared-sets.Pre verdicts-declared-sets.Post (λ κs r s. r)
-verdicts-declared-sets-once = ((λ κs a. tt), λ κs a r₁ r₂ s₁ s₂ p q. p ∙ sym q)
-
-verdicts-verdict-once : Determined verdicts-verdict.Pre verdicts-verdict.Post (λ κs r s. r)
-verdicts-verdict-once = ((λ κs a. tt), λ κs a r₁ r₂ s₁ s₂ p q. ap (λ (l : List ℕ). getD l 0 0) (p ∙ sym q))
-
-verdicts-allowed-once : Determined verdicts-allowed.Pre verdicts-allowed.Post (λ κs r s. r)
-verdicts-allowed-once = ((λ κs a. tt), λ κs a r₁ r₂ s₁ s₂ p q. p ∙ sym q)
-
 -- tables
 tables-is-segment-once : Determined tables-is-segment.Pre tables-is-segment.Post (λ κs r s. r)
 tables-is-segment-once = ((λ κs a. tt), λ κs a r₁ r₂ s₁ s₂ p q. p ∙ sym q)
@@ -348,11 +318,33 @@ tables-is-known-once = ((λ κs a. tt), λ κs a r₁ r₂ s₁ s₂ p q. p ∙ 
 guides-directory-once : Determined guides-directory.Pre guides-directory.Post (λ κs r s. r)
 guides-directory-once = ((λ κs a. tt), λ κs a r₁ r₂ s₁ s₂ p q. p ∙ sym q)
 
-guides-guide-006010-once : Determined guides-guide-006010.Pre guides-guide-006010.Post (λ κs r s. r)
-guides-guide-006010-once = ((λ κs a. tt), λ κs a r₁ r₂ s₁ s₂ p q. p ∙ sym q)
+guides-rows-once : Determined guides-rows.Pre guides-rows.Post (λ κs r s. r)
+guides-rows-once = ((λ κs a. tt), λ κs a r₁ r₂ s₁ s₂ p q. p ∙ sym q)
 
-guides-guide-004010-once : Determined guides-guide-004010.Pre guides-guide-004010.Post (λ κs r s. r)
-guides-guide-004010-once = ((λ κs a. tt), λ κs a r₁ r₂ s₁ s₂ p q. p ∙ sym q)
+guides-Edition-has-tables-once : Determined guides-Edition-has-tables.Pre guides-Edition-has-tables.Post (λ κs r s. r)
+guides-Edition-has-tables-once = ((λ κs a. tt), λ κs a r₁ r₂ s₁ s₂ p q. p ∙ sym q)
+
+guides-scope-of-once : Determined guides-scope-of.Pre guides-scope-of.Post (λ κs r s. r)
+guides-scope-of-once = ((λ κs a. tt), λ κs a r₁ r₂ s₁ s₂ p q. p ∙ sym q)
+
+guides-TableAt-is-there-once : Determined guides-TableAt-is-there.Pre guides-TableAt-is-there.Post (λ κs r s. r)
+guides-TableAt-is-there-once = ((λ κs a. tt), λ κs a r₁ r₂ s₁ s₂ p q. p ∙ sym q)
+
+guides-table-of-once : Determined guides-table-of.Pre guides-table-of.Post (λ κs r s. r)
+guides-table-of-once = ((λ κs a. tt), λ κs a r₁ r₂ s₁ s₂ p q. p ∙ sym q)
+
+-- verdicts
+verdicts-Codes-none-once : Determined verdicts-Codes-none.Pre verdicts-Codes-none.Post (λ κs r s. r)
+verdicts-Codes-none-once = ((λ κs a. tt), λ κs a r₁ r₂ s₁ s₂ p q. p ∙ sym q)
+
+verdicts-Codes-is-empty-once : Determined verdicts-Codes-is-empty.Pre verdicts-Codes-is-empty.Post (λ κs r s. r)
+verdicts-Codes-is-empty-once = ((λ κs a. tt), λ κs a r₁ r₂ s₁ s₂ p q. p ∙ sym q)
+
+verdicts-set-codes-once : Determined verdicts-set-codes.Pre verdicts-set-codes.Post (λ κs r s. r)
+verdicts-set-codes-once = ((λ κs a. tt), λ κs a r₁ r₂ s₁ s₂ p q. p ∙ sym q)
+
+verdicts-summary-of-once : Determined verdicts-summary-of.Pre verdicts-summary-of.Post (λ κs r s. r)
+verdicts-summary-of-once = ((λ κs a. tt), λ κs a r₁ r₂ s₁ s₂ p q. p ∙ sym q)
 
 -- elements
 elements-next-code-once : Determined elements-next-code.Pre elements-next-code.Post (λ κs r s. r)

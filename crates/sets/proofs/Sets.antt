@@ -38,6 +38,7 @@ record Follows (d : Delimiters) (body : Bytes) (start header n at : ℕ) (r : Se
       ++ (bodyOf (segments d (drop at body)) ++ listed (trailerOf (segments d (drop at body))))
   trailer : trailerOf (segments d (drop at body)) ≡ trailerIn d body r
   strays : inside (segments d (drop at body)) ≡ outside (segments d (drop (r .end) body))
+  starts : r .start ≡ start
   headed : r .header ≡ header
   counted : r .segments ≡ n + length (bodyOf (segments d (drop at body)) ++ listed (trailerOf (segments d (drop at body))))
   onward : at ≤ r .end
@@ -46,18 +47,19 @@ record Follows (d : Delimiters) (body : Bytes) (start header n at : ℕ) (r : Se
 module _ (d : Delimiters) (body : Bytes) (start header : ℕ) where
   -- the set goes on at a place
   abbrev from : ℕ → ℕ → SetAt
-  from n at = setFrom (d .element) header n at (pieces (d .terminator) (drop at body))
+  from n at = setFrom (d .element) start header n at (pieces (d .terminator) (drop at body))
 
   abbrev Goes : ℕ → ℕ → Type 0
   Goes n at = Follows d body start header n at (from n at)
 
-  follows-none : (n at : ℕ) → length body ≤ at → at ≤ length body + 1 → Follows d body start header n at (unclosedAt header n at)
+  follows-none : (n at : ℕ) → length body ≤ at → at ≤ length body + 1 → Follows d body start header n at (unclosedAt start header n at)
   unfolding bodyOf trailerOf outside
   follows-none n at k l = record {
     others = refl;
     whole = rw (segments-none d body at k) (sym (append-nil _));
     trailer = rw (segments-none d body at k);
     strays = rw (segments-none d body at k);
+    starts = refl;
     headed = refl;
     counted = rw (segments-none d body at k) (omega arith);
     onward = omega arith;
@@ -68,7 +70,7 @@ module _ (d : Delimiters) (body : Bytes) (start header : ℕ) where
     abbrev here : Segment
     here = split (d .element) (take (end - at) (drop at body))
 
-    follows-SE : isSE here ≡ true → Follows d body start header n at (closedAt header (n + 1) at (end + 1))
+    follows-SE : isSE here ≡ true → Follows d body start header n at (closedAt start header (n + 1) at (end + 1))
     unfolding bodyOf trailerOf setsOf outside
     follows-SE p =
         let back : end + 1 - 1 ≡ end = omega arith in
@@ -78,19 +80,21 @@ module _ (d : Delimiters) (body : Bytes) (start header : ℕ) where
           whole = rw (segments-at d body at end h q, g, p) (segments-part d w h q);
           trailer = rw (segments-at d body at end h q, p, back);
           strays = rw (segments-at d body at end h q, p);
+          starts = refl;
           headed = refl;
           counted = rw (segments-at d body at end h q, g, p);
           onward = omega arith;
           within = let l = find-end (d .terminator) body at end q h in omega arith;
         }
 
-    follows-ST : isSE here ≡ false → isST here ≡ true → Follows d body start header n at (unclosedAt header n at)
+    follows-ST : isSE here ≡ false → isST here ≡ true → Follows d body start header n at (unclosedAt start header n at)
     unfolding bodyOf trailerOf outside
     follows-ST p g = record {
       others = refl;
       whole = rw (segments-at d body at end h q, p, g) (sym (append-nil _));
       trailer = rw (segments-at d body at end h q, p, g);
       strays = rw (segments-at d body at end h q, p, g);
+      starts = refl;
       headed = refl;
       counted = rw (segments-at d body at end h q, p, g) (omega arith);
       onward = omega arith;
@@ -104,6 +108,7 @@ module _ (d : Delimiters) (body : Bytes) (start header : ℕ) where
       whole = f .whole ∙ rw (segments-part d w h q, append-assoc, segments-at d body at end h q, p, g);
       trailer = rw (segments-at d body at end h q, p, g) (f .trailer);
       strays = rw (segments-at d body at end h q, p) (f .strays);
+      starts = f .starts;
       headed = f .headed;
       counted = rw (segments-at d body at end h q, p, g) (omega (arith, f .counted));
       onward = omega (arith, f .onward);
@@ -111,13 +116,13 @@ module _ (d : Delimiters) (body : Bytes) (start header : ℕ) where
     }
 
     follows-here : (se st : Bool) → isSE here ≡ se → isST here ≡ st → Goes (n + 1) (end + 1) → Goes n at
-    follows-here true st p g f = rw (set-goes (d .terminator) body at end h q (d .element) header n true st p g) (follows-SE p)
-    follows-here false true p g f = rw (set-goes (d .terminator) body at end h q (d .element) header n false true p g) (follows-ST p g)
+    follows-here true st p g f = rw (set-goes (d .terminator) body at end h q (d .element) start header n true st p g) (follows-SE p)
+    follows-here false true p g f = rw (set-goes (d .terminator) body at end h q (d .element) start header n false true p g) (follows-ST p g)
     follows-here false false p g f =
-        rw (set-goes (d .terminator) body at end h q (d .element) header n false false p g) (follows-other p g (from (n + 1) (end + 1)) f)
+        rw (set-goes (d .terminator) body at end h q (d .element) start header n false false p g) (follows-other p g (from (n + 1) (end + 1)) f)
 
   goes-none : (n at : ℕ) → length body ≤ at → at ≤ length body + 1 → Goes n at
-  goes-none n at k l = rw (set-ends (d .terminator) body at k (d .element) header n) (follows-none n at k l)
+  goes-none n at k l = rw (set-ends (d .terminator) body at k (d .element) start header n) (follows-none n at k l)
 
   goes : (fuel n at : ℕ) → length body ≤ at + fuel → at ≤ length body + 1 → WholePart (d .terminator) body start at → Goes n at
   goes zero n at k l w = goes-none n at (omega arith) l
@@ -156,6 +161,7 @@ pub record SetIs (d : Delimiters) (body : Bytes) (at : ℕ) (r : SetAt) : Type 0
   pub counted : r .segments ≡ length (segmentsOf (setIn d body at r))
   pub control : controlOf (setIn d body at r) ≡ controlAt d body at
   pub strays : outside (segments d (drop at body)) ≡ outside (segments d (drop (r .end) body))
+  pub starts : r .start ≡ at
   pub onward : at < r .end
   pub within : r .end ≤ length body + 1
 
@@ -190,6 +196,7 @@ module _ (d : Delimiters) (body : Bytes) (at : ℕ) (r : SetAt) (h : at < length
     counted = omega (arith, after .counted);
     control = sym (control-is d body at (r .header) (opened .headed));
     strays = rw (header-at, st) (after .strays);
+    starts = after .starts;
     onward = omega (arith, after .onward, opened .headed);
     within = after .within;
   }

@@ -17,11 +17,11 @@ use Rattle.text.proofs.Search.{find-end}
 use Rattle.segments.proofs.Pieces.{pieces-at, pieces-none, segments-at, segments-none}
 use Rattle.sets.specs.Places.{closedAt, unclosedAt, setFrom, setAt, controlAt}
 
-from-cons : (e header n at : ℕ) (p : Bytes) (ps : List Bytes) → setFrom e header n at (p ∷ ps)
-    ≡ (if isSE (split e p) then closedAt header (n + 1) at (at + length p + 1)
-    else (if isST (split e p) then unclosedAt header n at else setFrom e header (n + 1) (at + length p + 1) ps))
+from-cons : (e start header n at : ℕ) (p : Bytes) (ps : List Bytes) → setFrom e start header n at (p ∷ ps)
+    ≡ (if isSE (split e p) then closedAt start header (n + 1) at (at + length p + 1)
+    else (if isST (split e p) then unclosedAt start header n at else setFrom e start header (n + 1) (at + length p + 1) ps))
 unfolding setFrom
-from-cons e header n at p ps = refl
+from-cons e start header n at p ps = refl
 
 -- 1. The segment at a place, with the end that `find` gave.
 module _ (t : ℕ) (s : Bytes) (at end : ℕ) (h : at < length s) (q : end ≡ at + indexOf t (drop at s)) where
@@ -31,24 +31,24 @@ module _ (t : ℕ) (s : Bytes) (at end : ℕ) (h : at < length s) (q : end ≡ a
       omega (arith, length-take-le (end - at) (drop at s) (omega (arith, length-drop at s)))
 
   -- it comes after a header
-  pub set-goes : (e header n : ℕ) (se st : Bool)
+  pub set-goes : (e start header n : ℕ) (se st : Bool)
       → isSE (split e (take (end - at) (drop at s))) ≡ se → isST (split e (take (end - at) (drop at s))) ≡ st
-      → setFrom e header n at (pieces t (drop at s))
-      ≡ (if se then closedAt header (n + 1) at (end + 1)
-      else (if st then unclosedAt header n at else setFrom e header (n + 1) (end + 1) (pieces t (drop (end + 1) s))))
-  set-goes e header n se st p g = rw (pieces-at t s at end h q, from-cons, p, g, piece-end)
+      → setFrom e start header n at (pieces t (drop at s))
+      ≡ (if se then closedAt start header (n + 1) at (end + 1)
+      else (if st then unclosedAt start header n at else setFrom e start header (n + 1) (end + 1) (pieces t (drop (end + 1) s))))
+  set-goes e start header n se st p g = rw (pieces-at t s at end h q, from-cons, p, g, piece-end)
 
-pub set-ends : (t : ℕ) (s : Bytes) (at : ℕ) → length s ≤ at → (e header n : ℕ) → setFrom e header n at (pieces t (drop at s)) ≡ unclosedAt header n at
+pub set-ends : (t : ℕ) (s : Bytes) (at : ℕ) → length s ≤ at → (e start header n : ℕ) → setFrom e start header n at (pieces t (drop at s)) ≡ unclosedAt start header n at
 unfolding setFrom
-set-ends t s at h e header n = rw (pieces-none t s at h)
+set-ends t s at h e start header n = rw (pieces-none t s at h)
 
 -- it is a header
 pub set-opens : (d : Delimiters) (s : Bytes) (at end : ℕ) → at < length s → end ≡ at + indexOf (d .terminator) (drop at s)
-    → setAt d s at ≡ setFrom (d .element) end 1 (end + 1) (pieces (d .terminator) (drop (end + 1) s))
+    → setAt d s at ≡ setFrom (d .element) at end 1 (end + 1) (pieces (d .terminator) (drop (end + 1) s))
 unfolding setAt
 set-opens d s at end h q = rw (pieces-at (d .terminator) s at end h q, piece-end (d .terminator) s at end h q)
 
-pub set-none : (d : Delimiters) (s : Bytes) (at : ℕ) → length s ≤ at → setAt d s at ≡ unclosedAt at 0 at
+pub set-none : (d : Delimiters) (s : Bytes) (at : ℕ) → length s ≤ at → setAt d s at ≡ unclosedAt at at 0 at
 unfolding setAt
 set-none d s at h = rw (pieces-none (d .terminator) s at h)
 

@@ -10,24 +10,24 @@ use Rattle.rules.specs.declared.Delimiters.{Delimiters}
 use Rattle.sets.specs.declared.SetAt.{SetAt}
 
 -- a set of n segments with its SE, and one without
-abbrev pub closedAt : ℕ → ℕ → ℕ → ℕ → SetAt
-closedAt header n trailer end = record { header = header; trailer = trailer; end = end; closed = true; segments = n }
+abbrev pub closedAt : ℕ → ℕ → ℕ → ℕ → ℕ → SetAt
+closedAt start header n trailer end = record { start = start; header = header; trailer = trailer; end = end; closed = true; segments = n }
 
-abbrev pub unclosedAt : ℕ → ℕ → ℕ → SetAt
-unclosedAt header n end = record { header = header; trailer = end; end = end; closed = false; segments = n }
+abbrev pub unclosedAt : ℕ → ℕ → ℕ → ℕ → SetAt
+unclosedAt start header n end = record { start = start; header = header; trailer = end; end = end; closed = false; segments = n }
 
--- the set whose header ends at header, which has n segments so far, and whose next pieces, cut by the separator e, start at the place at
-unfoldable pub setFrom : ℕ → ℕ → ℕ → ℕ → List Bytes → SetAt
-setFrom e header n at [] = unclosedAt header n at
-setFrom e header n at (p ∷ ps) =
-    let r = setFrom e header (n + 1) (at + length p + 1) ps in
-    if isSE (split e p) then closedAt header (n + 1) at (at + length p + 1)
-    else (if isST (split e p) then unclosedAt header n at else r)
+-- the set whose header goes from start to header, which has n segments so far, and whose next pieces, cut by the separator e, start at the place at
+unfoldable pub setFrom : ℕ → ℕ → ℕ → ℕ → ℕ → List Bytes → SetAt
+setFrom e start header n at [] = unclosedAt start header n at
+setFrom e start header n at (p ∷ ps) =
+    let r = setFrom e start header (n + 1) (at + length p + 1) ps in
+    if isSE (split e p) then closedAt start header (n + 1) at (at + length p + 1)
+    else (if isST (split e p) then unclosedAt start header n at else r)
 
 -- the set whose header is the first piece, which starts at the place at
 abbrev pub setBy : ℕ → ℕ → List Bytes → SetAt
-setBy e at [] = unclosedAt at 0 at
-setBy e at (p ∷ ps) = setFrom e (at + length p) 1 (at + length p + 1) ps
+setBy e at [] = unclosedAt at at 0 at
+setBy e at (p ∷ ps) = setFrom e at (at + length p) 1 (at + length p + 1) ps
 
 -- the set that starts at the place at
 unfoldable pub setAt : Delimiters → Bytes → ℕ → SetAt

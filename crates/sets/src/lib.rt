@@ -8,6 +8,8 @@ use rules::Delimiters;
 
 // The place of a set.
 pub struct SetAt {
+    // Where its header starts.
+    pub start: usize,
     // Where the header ends.
     pub header: usize,
     // Where the trailer starts; the end where there is none.
@@ -21,10 +23,17 @@ pub struct SetAt {
 }
 
 impl SetAt {
-    fn with_trailer(header: usize, segments: usize, trailer: usize, end: usize) -> Self
-        ensures { λ r. ⌜ r ≡ closedAt header segments trailer end ⌝ }
+    fn with_trailer(
+        start: usize,
+        header: usize,
+        segments: usize,
+        trailer: usize,
+        end: usize,
+    ) -> Self
+        ensures { λ r. ⌜ r ≡ closedAt start header segments trailer end ⌝ }
     {
         Self {
+            start,
             header,
             trailer,
             end,
@@ -33,10 +42,11 @@ impl SetAt {
         }
     }
 
-    fn without_trailer(header: usize, segments: usize, end: usize) -> Self
-        ensures { λ r. ⌜ r ≡ unclosedAt header segments end ⌝ }
+    fn without_trailer(start: usize, header: usize, segments: usize, end: usize) -> Self
+        ensures { λ r. ⌜ r ≡ unclosedAt start header segments end ⌝ }
     {
         Self {
+            start,
             header,
             trailer: end,
             end,
@@ -51,7 +61,7 @@ pub fn next_set(body: &[u8], d: Delimiters, at: usize) -> SetAt
     ensures { λ r. ⌜ r ≡ setAt d (now (body .entry)) at ⌝ }
 {
     if body.len() <= at {
-        return SetAt::without_trailer(at, 0, at);
+        return SetAt::without_trailer(at, at, 0, at);
     }
     let header = text::find(body, at, d.terminator);
     let mut segments: usize = 1;
@@ -60,15 +70,15 @@ pub fn next_set(body: &[u8], d: Delimiters, at: usize) -> SetAt
         let end = text::find(body, next, d.terminator);
         let segment = &body[next..end];
         if segments::is_named(segment, d.element, &rules::SE) {
-            return SetAt::with_trailer(header, segments + 1, next, end + 1);
+            return SetAt::with_trailer(at, header, segments + 1, next, end + 1);
         }
         if segments::is_named(segment, d.element, &rules::ST) {
-            return SetAt::without_trailer(header, segments, next);
+            return SetAt::without_trailer(at, header, segments, next);
         }
         segments += 1;
         next = end + 1;
     }
-    SetAt::without_trailer(header, segments, next)
+    SetAt::without_trailer(at, header, segments, next)
 }
 
 // ST01 is three digits, and ST02 is 4 to 9 valid bytes.

@@ -1,40 +1,28 @@
-// The verdicts: the codes of a set (AK5) and of a group (AK9), and what AK901 to AK904 say.
+// The verdicts: the codes of a set (AK5), and the summary of a group (AK9).
 ghost use mathlib.Core.Path.{_≡_};
-ghost use mathlib.Core.Bool.{not};
 ghost use mathlib.Core.List.{[], _∷_};
 ghost use Prim.Native.Nat.{min};
-ghost use lib.ListN.{take};
-ghost use Rattle.rules.specs.Base.{ascii, same, member, null, isNone, if_then_else_};
+ghost use Rattle.rules.specs.Base.{ascii, same, null, if_then_else_};
 ghost use Rattle.rules.specs.Cutting as cutting;
 ghost use Rattle.rules.specs.Cutting.{split};
 ghost use Rattle.rules.specs.Sets.{declaredIn};
 ghost use Rattle.rules.specs.Groups as groups;
 ghost use Rattle.verdicts.specs.Collecting.{codesOf, noCodes, withCode, collected};
-ghost use Rattle.verdicts.specs.Verdicts.{trailerIf, otherControl, otherCount, setCodeRules, groupCodeRules, editionIn, tableFor};
+ghost use Rattle.verdicts.specs.Verdicts.{trailerIf, otherControl, otherCount, setCodeRules, groupCodeRules, summaryOf};
+use guides::Scope;
 use rules::Delimiters;
+use rules::GroupCode;
+use rules::SetCode;
 use segments::field;
 use text::Count;
 use text::same_bytes;
 
-// The group ids that are supported.
-pub const GF: [u8; 2] = *b"GF";
-
-pub const SM: [u8; 2] = *b"SM";
-
-// The transaction set id of a load response.
-pub const LOAD_RESPONSE: [u8; 3] = *b"990";
-
-// The editions that have a table.
-pub const EDITION_006010: [u8; 6] = *b"006010";
-
-pub const EDITION_004010: [u8; 6] = *b"004010";
-
 // AK901.
-pub const ACCEPTED: u8 = b'A';
+const ACCEPTED: u8 = b'A';
 
-pub const PARTLY: u8 = b'P';
+const PARTLY: u8 = b'P';
 
-pub const REJECTED: u8 = b'R';
+const REJECTED: u8 = b'R';
 
 // How many digits a declared count may have.
 const SE01_DIGITS: usize = 10;
@@ -51,7 +39,7 @@ impl Codes {
     pub const MOST: usize = 6;
 
     // No code.
-    fn none() -> Self
+    pub fn none() -> Self
         ensures { λ r. ⌜ r ≡ noCodes ⌝ }
     {
         Self {
@@ -101,92 +89,69 @@ fn is_other_count(closed: bool, trailer: &[u8], e: u8, most: usize, n: usize) ->
     closed && !text::declares(field(trailer, e, 1), most, n as u64)
 }
 
-// The codes of a set, by the bytes of its ST and SE; the trailer is read only where the set is closed. `segments` counts from ST to SE.
-pub fn set_codes(
-    supported: bool,
-    closed: bool,
-    trailer: &[u8],
-    header: &[u8],
-    d: Delimiters,
-    segments: usize,
-    noted: bool,
-    repeated: bool,
-) -> Codes
-    ensures { λ r. ⌜ r ≡ collected (setCodeRules supported (split (d .element) (now (header .entry))) (trailerIf closed (split (d .element) (now (trailer .entry)))) segments noted repeated) ⌝ }
+// What a set's codes are made from, beside the bytes of its header and trailer.
+pub struct SetFacts {
+    // It has a table.
+    pub supported: bool,
+    // It has a trailer.
+    pub closed: bool,
+    // How many segments there are, from header to trailer.
+    pub segments: usize,
+    // An AK3 is written of it.
+    pub noted: bool,
+    // An earlier set has its control number.
+    pub repeated: bool,
+}
+
+// The codes of a set, by the bytes of its ST and SE; the trailer is read only where the set is closed.
+pub fn set_codes(header: &[u8], trailer: &[u8], d: Delimiters, set: SetFacts) -> Codes
+    ensures { λ r. ⌜ r ≡ collected (setCodeRules set (split (d .element) (now (header .entry))) (trailerIf (set .closed) (split (d .element) (now (trailer .entry))))) ⌝ }
 {
     let e = d.element;
     Codes::none()
-        .with(!supported, 1)
-        .with(!closed, 2)
-        .with(is_other_control(closed, trailer, header, e, 2), 3)
-        .with(is_other_count(closed, trailer, e, SE01_DIGITS, segments), 4)
-        .with(noted, 5)
-        .with(repeated, 23)
-}
-
-// The editions of document 01 that have a table, and any other.
-pub enum Edition {
-    E006010,
-    E004010,
-    Other,
-}
-
-impl Edition {
-    // There is a table for it.
-    fn has_table(self) -> bool
-        ensures { λ r. ⌜ r ≡ not (isNone (tableFor self)) ⌝ }
-    {
-        match self {
-            Edition::E006010 => true,
-            Edition::E004010 => true,
-            Edition::Other => false,
-        }
-    }
-}
-
-// The edition that GS08 names in its first six bytes.
-pub fn edition_of(gs08: &[u8]) -> Edition
-    ensures { λ r. ⌜ r ≡ editionIn (take 6 (now (gs08 .entry))) ⌝ }
-{
-    let edition = text::part(gs08, 0, 6);
-    if same_bytes(edition, &EDITION_006010) {
-        return Edition::E006010;
-    }
-    if same_bytes(edition, &EDITION_004010) {
-        return Edition::E004010;
-    }
-    Edition::Other
-}
-
-// GS01 is supported.
-pub fn is_supported(gs01: &[u8]) -> bool
-    ensures { λ r. ⌜ r ≡ member (now (gs01 .entry)) (ascii "GF" ∷ ascii "SM" ∷ []) ⌝ }
-{
-    same_bytes(gs01, &GF) || same_bytes(gs01, &SM)
-}
-
-// ST01 is that of a load response.
-pub fn is_load_response(st01: &[u8]) -> bool
-    ensures { λ r. ⌜ r ≡ same (now (st01 .entry)) (ascii "990") ⌝ }
-{
-    same_bytes(st01, &LOAD_RESPONSE)
+        .with(!set.supported, SetCode::NOT_SUPPORTED)
+        .with(!set.closed, SetCode::NO_TRAILER)
+        .with(
+            is_other_control(set.closed, trailer, header, e, 2),
+            SetCode::OTHER_CONTROL,
+        )
+        .with(
+            is_other_count(set.closed, trailer, e, SE01_DIGITS, set.segments),
+            SetCode::OTHER_COUNT,
+        )
+        .with(set.noted, SetCode::HAS_NOTES)
+        .with(set.repeated, SetCode::REPEATED)
 }
 
 // The codes of a group, by the bytes of its GS and GE; the trailer is read only where the group is closed.
-pub fn group_codes(gs: &[u8], ge: &[u8], closed: bool, d: Delimiters, sets: usize) -> Codes
-    ensures { λ r. ⌜ r ≡ collected (groupCodeRules (split (d .element) (now (gs .entry))) (trailerIf closed (split (d .element) (now (ge .entry)))) sets) ⌝ }
+fn group_codes(
+    gs: &[u8],
+    ge: &[u8],
+    closed: bool,
+    d: Delimiters,
+    scope: Scope,
+    sets: usize,
+) -> Codes
+    ensures { λ r. ⌜ r ≡ collected (groupCodeRules scope (split (d .element) (now (gs .entry))) (trailerIf closed (split (d .element) (now (ge .entry)))) sets) ⌝ }
 {
     let e = d.element;
+    let edition = scope.edition;
     Codes::none()
-        .with(!is_supported(field(gs, e, 1)), 1)
-        .with(!edition_of(field(gs, e, 8)).has_table(), 2)
-        .with(!closed, 3)
-        .with(is_other_control(closed, ge, gs, e, 6), 4)
-        .with(is_other_count(closed, ge, e, GE01_DIGITS, sets), 5)
+        .with(!scope.supported, GroupCode::NOT_SUPPORTED)
+        .with(!edition.has_tables(), GroupCode::NO_TABLE)
+        .with(!closed, GroupCode::NO_TRAILER)
+        .with(
+            is_other_control(closed, ge, gs, e, 6),
+            GroupCode::OTHER_CONTROL,
+        )
+        .with(
+            is_other_count(closed, ge, e, GE01_DIGITS, sets),
+            GroupCode::OTHER_COUNT,
+        )
 }
 
 // AK902: the value of GE01, or the number of sets where it declares none.
-pub fn declared_sets(ge: &[u8], closed: bool, d: Delimiters, sets: usize) -> u64
+fn included_sets(ge: &[u8], closed: bool, d: Delimiters, sets: usize) -> u64
     ensures { λ r. ⌜ r ≡ groups.or-else (declaredIn 6 (trailerIf closed (split (d .element) (now (ge .entry))))) sets ⌝ }
 {
     let e = d.element;
@@ -199,17 +164,23 @@ pub fn declared_sets(ge: &[u8], closed: bool, d: Delimiters, sets: usize) -> u64
     }
 }
 
-// AK901, by the group's codes and the numbers of sets received and accepted.
-pub fn verdict(codes: Codes, received: usize, accepted: usize) -> u8
-    ensures { λ r. ⌜ r ∷ [] ≡ groups.verdict (codesOf codes) received accepted ⌝ }
+// How many sets a group has, and how many of them are accepted.
+pub struct Tally {
+    pub received: usize,
+    pub accepted: usize,
+}
+
+// AK901, by the group's codes and its sets.
+fn verdict_of(codes: Codes, sets: Tally) -> u8
+    ensures { λ r. ⌜ r ∷ [] ≡ groups.verdict (codesOf codes) (sets .received) (sets .accepted) ⌝ }
 {
     if !codes.is_empty() {
         return REJECTED;
     }
-    if accepted == 0 {
+    if sets.accepted == 0 {
         return REJECTED;
     }
-    if accepted == received {
+    if sets.accepted == sets.received {
         ACCEPTED
     } else {
         PARTLY
@@ -217,8 +188,39 @@ pub fn verdict(codes: Codes, received: usize, accepted: usize) -> u8
 }
 
 // AK904: the sets accepted, and none under the verdict R.
-pub fn allowed(verdict: u8, accepted: usize) -> usize
+fn allowed_sets(verdict: u8, accepted: usize) -> usize
     ensures { λ r. ⌜ r ≡ if same (verdict ∷ []) (ascii "R") then 0 else accepted ⌝ }
 {
     if verdict == REJECTED { 0 } else { accepted }
+}
+
+// The summary of a group: AK901 to AK904, and its codes.
+pub struct Summary {
+    pub verdict: u8,
+    pub included: u64,
+    pub received: usize,
+    pub allowed: usize,
+    pub codes: Codes,
+}
+
+// The summary of a group, by the bytes of its GS and GE, its scope and its sets; the trailer is read only where the group is closed.
+pub fn summary_of(
+    gs: &[u8],
+    ge: &[u8],
+    closed: bool,
+    d: Delimiters,
+    scope: Scope,
+    sets: Tally,
+) -> Summary
+    ensures { λ r. ⌜ r ≡ summaryOf scope (split (d .element) (now (gs .entry))) (trailerIf closed (split (d .element) (now (ge .entry)))) sets ⌝ }
+{
+    let codes = group_codes(gs, ge, closed, d, scope, sets.received);
+    let verdict = verdict_of(codes, sets);
+    Summary {
+        verdict,
+        included: included_sets(ge, closed, d, sets.received),
+        received: sets.received,
+        allowed: allowed_sets(verdict, sets.accepted),
+        codes,
+    }
 }

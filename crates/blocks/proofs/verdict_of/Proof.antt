@@ -1,13 +1,13 @@
 -- `blocks::verdict_of` meets its contract.
-use Rattle.blocks.proofs.Laws.{accepted, rejected}
+use borrow.Author.Needs.{needs}
 use Rattle.blocks.proofs.verdict_of.Statement.{statement}
 use Rattle.blocks.proofs.verdict_of.Tie as tie
 
 returns : tie.Need-returns
-returns c = accepted (c .before .args .codes .now) (c .if1 .taken)
+returns c = rw (← c .before .is-empty .ensures, c .if1 .taken)
 
 returns-2 : tie.Need-returns-2
-returns-2 c = rejected (c .before .args .codes .now) (c .if1 .left)
+returns-2 c = rw (← c .before .is-empty .ensures, c .if1 .left)
 
 pub verdict-of-spec : {M : Type 1} → statement M
-verdict-of-spec = tie.close (tie.spec returns returns-2)
+verdict-of-spec = tie.close (tie.spec (λ c κs. search needs) returns returns-2)

@@ -14,19 +14,13 @@ use Rattle.sets.proofs.next_set.Tie as tie
 
 abbrev Inv-loop : tie.InvT-loop
 Inv-loop body d at header segments₀ next₀ t8 t9 segments next =
-    (next ≤ length body + 1) × ((segments ≤ next) × (setAt d body at ≡ setFrom (d .element) header segments next (pieces (d .terminator) (drop next body))))
+    (next ≤ length body + 1) × ((segments ≤ next) × (setAt d body at ≡ setFrom (d .element) at header segments next (pieces (d .terminator) (drop next body))))
 
 abbrev μ-loop : tie.MeasureT-loop
 μ-loop body d at header segments₀ next₀ t8 t9 segments next = length body + 1 - next
 
-without-trailer-requires : tie.Need-without-trailer-requires Inv-loop μ-loop
-without-trailer-requires c κs = search needs
-
 returns : tie.Need-returns Inv-loop μ-loop
 returns c = c .without-trailer .ensures ∙ sym (set-none _ _ _ (c .before .if1 .taken))
-
-find-requires : tie.Need-find-requires Inv-loop μ-loop
-find-requires c κs = search needs
 
 add-next : tie.Need-add-next Inv-loop μ-loop
 add-next c = let within = find-end _ _ _ _ (c .find .ensures) (c .before .if1 .left) in omega arith
@@ -36,23 +30,8 @@ loop-holds c =
     let within = find-end _ _ _ _ (c .find .ensures) (c .before .if1 .left) in
     (omega arith, (omega arith, set-opens _ _ _ _ (c .before .if1 .left) (c .find .ensures)))
 
-find-requires-2 : tie.Need-find-requires-2 Inv-loop μ-loop
-find-requires-2 c κs = search needs
-
-sub-segment : tie.Need-sub-segment Inv-loop μ-loop
-sub-segment c = search needs
-
-part-segment-start : tie.Need-part-segment-start Inv-loop μ-loop
-part-segment-start c = search needs
-
 part-segment-end : tie.Need-part-segment-end Inv-loop μ-loop
 part-segment-end c = find-end _ _ _ _ (c .find2 .ensures) (c .before .loop-test .taken)
-
-slice-aggregate-is-named : tie.Need-slice-aggregate-is-named Inv-loop μ-loop
-slice-aggregate-is-named c = search needs
-
-is-named-requires : tie.Need-is-named-requires Inv-loop μ-loop
-is-named-requires c κs = search needs
 
 add-with-trailer : tie.Need-add-with-trailer Inv-loop μ-loop
 add-with-trailer c = omega (arith, c .before .before .before .before .before .before .loop .inv .1 .0)
@@ -63,24 +42,12 @@ add-with-trailer-2 c =
     let within = find-end _ _ _ _ (f .find2 .ensures) (f .before .loop-test .taken) in
     omega arith
 
-with-trailer-requires : tie.Need-with-trailer-requires Inv-loop μ-loop
-with-trailer-requires c κs = search needs
-
 returns-2 : tie.Need-returns-2 Inv-loop μ-loop
 returns-2 c =
     let f = c .before .before .before .before .before in
     let trailer = sym (c .before .before .is-named .ensures) ∙ c .before .if2 .taken in
     c .with-trailer .ensures
-    ∙ sym (f .before .before .loop .inv .1 .1 ∙ set-goes _ _ _ _ (f .before .loop-test .taken) (f .find2 .ensures) _ _ _ true _ trailer refl)
-
-slice-aggregate-is-named-2 : tie.Need-slice-aggregate-is-named-2 Inv-loop μ-loop
-slice-aggregate-is-named-2 c = search needs
-
-is-named-requires-2 : tie.Need-is-named-requires-2 Inv-loop μ-loop
-is-named-requires-2 c κs = search needs
-
-without-trailer-requires-2 : tie.Need-without-trailer-requires-2 Inv-loop μ-loop
-without-trailer-requires-2 c κs = search needs
+    ∙ sym (f .before .before .loop .inv .1 .1 ∙ set-goes _ _ _ _ (f .before .loop-test .taken) (f .find2 .ensures) _ _ _ _ true _ trailer refl)
 
 returns-3 : tie.Need-returns-3 Inv-loop μ-loop
 returns-3 c =
@@ -88,19 +55,16 @@ returns-3 c =
     let trailer = sym (c .before .before .before .before .before .is-named .ensures) ∙ c .before .before .before .before .if2 .left in
     let header = sym (c .before .before .is-named2 .ensures) ∙ c .before .if3 .taken in
     c .without-trailer2 .ensures
-    ∙ sym (f .before .before .loop .inv .1 .1 ∙ set-goes _ _ _ _ (f .before .loop-test .taken) (f .find2 .ensures) _ _ _ false true trailer header)
+    ∙ sym (f .before .before .loop .inv .1 .1 ∙ set-goes _ _ _ _ (f .before .loop-test .taken) (f .find2 .ensures) _ _ _ _ false true trailer header)
 
 add-segments : tie.Need-add-segments Inv-loop μ-loop
-add-segments c = omega (arith, c .before .before .before .before .before .before .before .before .before .loop .inv .1 .0)
+add-segments c = let segment = c .before .before .before .before .before .before .before in omega (arith, segment .before .before .loop .inv .1 .0)
 
 add-next-2 : tie.Need-add-next-2 Inv-loop μ-loop
 add-next-2 c =
     let f = c .before .before .before .before .before .before .before in
     let within = find-end _ _ _ _ (f .find2 .ensures) (f .before .loop-test .taken) in
     omega arith
-
-loop-less : tie.Need-loop-less Inv-loop μ-loop
-loop-less c = search needs
 
 loop-again : tie.Need-loop-again Inv-loop μ-loop
 loop-again c =
@@ -111,15 +75,12 @@ loop-again c =
       omega arith,
       (
         omega (arith, f .before .before .loop .inv .1 .0),
-        f .before .before .loop .inv .1 .1 ∙ set-goes _ _ _ _ (f .before .loop-test .taken) (f .find2 .ensures) _ _ _ false false trailer header,
+        f .before .before .loop .inv .1 .1 ∙ set-goes _ _ _ _ (f .before .loop-test .taken) (f .find2 .ensures) _ _ _ _ false false trailer header,
       ),
     )
 
-without-trailer-requires-3 : tie.Need-without-trailer-requires-3 Inv-loop μ-loop
-without-trailer-requires-3 c κs = search needs
-
 returns-4 : tie.Need-returns-4 Inv-loop μ-loop
-returns-4 c = c .without-trailer3 .ensures ∙ sym (c .before .before .loop .inv .1 .1 ∙ set-ends _ _ _ (c .before .loop-test .left) _ _ _)
+returns-4 c = c .without-trailer3 .ensures ∙ sym (c .before .before .loop .inv .1 .1 ∙ set-ends _ _ _ (c .before .loop-test .left) _ _ _ _)
 
 pub next-set-spec : {M : Type 1} → statement M
 next-set-spec =
@@ -127,28 +88,28 @@ next-set-spec =
     (tie.spec
     Inv-loop
     μ-loop
-    without-trailer-requires
+    (λ c κs. search needs)
     returns
-    find-requires
+    (λ c κs. search needs)
     add-next
     loop-holds
-    find-requires-2
-    sub-segment
-    part-segment-start
+    (λ c κs. search needs)
+    (λ c. search needs)
+    (λ c. search needs)
     part-segment-end
-    slice-aggregate-is-named
-    is-named-requires
+    (λ c. search needs)
+    (λ c κs. search needs)
     add-with-trailer
     add-with-trailer-2
-    with-trailer-requires
+    (λ c κs. search needs)
     returns-2
-    slice-aggregate-is-named-2
-    is-named-requires-2
-    without-trailer-requires-2
+    (λ c. search needs)
+    (λ c κs. search needs)
+    (λ c κs. search needs)
     returns-3
     add-segments
     add-next-2
-    loop-less
+    (λ c. search needs)
     loop-again
-    without-trailer-requires-3
+    (λ c κs. search needs)
     returns-4)
