@@ -27,7 +27,7 @@ use Rattle.verdicts.specs.Verdicts.{trailerIf, otherControl, otherCount, setCod
 use Rattle.verdicts.specs.declared.Codes.{Codes}
 use Rattle.verdicts.proofs.Laws.{closed-if, trailer-if, set-codes}
 use Rattle.findings.specs.Events.{flat, written}
-use Rattle.findings.specs.Left.{events, left}
+use Rattle.findings.specs.Remaining.{events, remaining}
 use Rattle.findings.specs.Steps.{start}
 use Rattle.findings.proofs.Linked.{walk-notes}
 use Rattle.findings.proofs.Told.{written-flat, null-flat}
@@ -141,12 +141,12 @@ module _ {d : Delimiters} {s : Set} {closed : Bool} {n : ℕ} {bs st se : Bytes}
   notes supported = notesIn d (tableIf supported (tableOf directoryRows rows)) s
 
   -- the events of a walk through the set are its notes
-  events-are : events (left bs d directoryRows rows closed start) ≡ flat (notes true)
+  events-are : events (remaining bs d directoryRows rows closed start) ≡ flat (notes true)
   events-are =
       rw (walk-notes bs d directoryRows rows closed limits (parts .short) (sym (parts .whole)), ← parts .trailer, ← closed-if closed (split (d .element) se), Bool·not-not closed)
 
   -- what the walk says is its notes
-  notes-are : (supported : Bool) → (if supported then map written (events (left bs d directoryRows rows closed start)) else []) ≡ ak3s (notes supported)
+  notes-are : (supported : Bool) → (if supported then map written (events (remaining bs d directoryRows rows closed start)) else []) ≡ ak3s (notes supported)
   unfolding ak3s
   notes-are true = rw events-are (written-flat _)
   notes-are false = refl
@@ -165,7 +165,7 @@ module _ {d : Delimiters} {s : Set} {closed : Bool} {n : ℕ} {bs st se : Bytes}
 
   -- no code but 5 and 23, and no note
   clean-by : (supported : Bool) {fine r : Bool} {codes : Codes} → codes ≡ codesBy supported false false → fine ≡ null (codesOf codes)
-      → r ≡ fine && not (not (null (events (left bs d directoryRows rows closed start))))
+      → r ≡ fine && not (not (null (events (remaining bs d directoryRows rows closed start))))
       → r ≡ null (setCodes (tableIf supported (tableOf directoryRows rows)) (notes supported) [] s)
   unfolding setCodes every any
   clean-by true f g h =
@@ -178,7 +178,7 @@ module _ {d : Delimiters} {s : Set} {closed : Bool} {n : ℕ} {bs st se : Bytes}
   pub clean-is : (known : Bool) {supported fine r : Bool} {codes : Codes}
       → supported ≡ known && same (field (split (d .element) st) 1) (ascii "990")
       → codes ≡ codesBy supported false false → fine ≡ null (codesOf codes)
-      → r ≡ fine && not (not (null (events (left bs d directoryRows rows closed start))))
+      → r ≡ fine && not (not (null (events (remaining bs d directoryRows rows closed start))))
       → r ≡ accepted (setReport d (tableWith known rows s) [] s)
   unfolding setReport
   clean-is known {supported} e f g h = let which = rw (parts .header) at e in rw (← which) (clean-by supported f g h)
@@ -187,7 +187,7 @@ module _ {d : Delimiters} {s : Set} {closed : Bool} {n : ℕ} {bs st se : Bytes}
   pub block-of : (known : Bool) (earlier : List Bytes) {supported repeated : Bool} {codes : Codes} {told : Told} {k l m : ℕ} {o o₁ o₂ o₃ : Bytes}
       → supported ≡ known && same (field (split (d .element) st) 1) (ascii "990")
       → From 0 (segmentOut d (ascii "AK2" ∷ field (split (d .element) st) 1 ∷ field (split (d .element) st) 2 ∷ [])) k o o₁
-      → TellsFrom k d (if supported then map written (events (left bs d directoryRows rows closed start)) else []) told o₁ o₂
+      → TellsFrom k d (if supported then map written (events (remaining bs d directoryRows rows closed start)) else []) told o₁ o₂
       → codes ≡ codesBy supported (not (eqb (told .segments) 0)) repeated
       → From (told .length) (segmentOut d (ascii "AK5" ∷ (if null (codesOf codes) then ascii "A" else ascii "R") ∷ map decimal (codesOf codes))) l o₂ o₃
       → m ≡ sat (told .segments + 2) → repeated ≡ member (controlOf s) earlier

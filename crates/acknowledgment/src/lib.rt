@@ -19,7 +19,7 @@ ghost use Rattle.sets.proofs.Sets.{SetIs};
 ghost use Rattle.register.proofs.Entered.{Entered};
 ghost use Rattle.verdicts.specs.Verdicts.{trailerIf};
 ghost use Rattle.findings.specs.Events.{written};
-ghost use Rattle.findings.specs.Left.{events, left};
+ghost use Rattle.findings.specs.Remaining.{events, remaining};
 ghost use Rattle.findings.specs.Steps.{start};
 ghost use Rattle.writing.specs.Over.{Wrote, From};
 ghost use Rattle.notes.specs.Saying.{Tells};
@@ -155,7 +155,7 @@ fn add_notes(
     closed: bool,
     supported: bool,
 ) -> Told
-    ensures { λ r. ⌜ TellsFrom n d (if supported then map written (events (left (now (set .entry)) d directoryRows (now (guide .entry)) closed start)) else []) r (now (out .entry)) (now (out .exit)) ⌝ }
+    ensures { λ r. ⌜ TellsFrom n d (if supported then map written (events (remaining (now (set .entry)) d directoryRows (now (guide .entry)) closed start)) else []) r (now (out .entry)) (now (out .exit)) ⌝ }
 {
     if !supported {
         return Told {

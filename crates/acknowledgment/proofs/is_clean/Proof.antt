@@ -5,7 +5,7 @@ use mathlib.Core.List.{[]}
 use Rattle.rules.specs.Base.{null}
 use Rattle.rules.specs.Sets.{accepted}
 use Rattle.guides.specs.Encoded.{directoryRows}
-use Rattle.findings.specs.Left.{events, left}
+use Rattle.findings.specs.Remaining.{events, remaining}
 use Rattle.findings.specs.Steps.{start}
 use Rattle.acknowledgment.specs.Writers.{tableWith}
 use Rattle.acknowledgment.specs.Surveys.{reportAt}
@@ -19,7 +19,7 @@ use Rattle.acknowledgment.proofs.is_clean.Tie as tie
 abbrev Judged : tie.After-is-empty → Type 0
 Judged c =
     let a = c .before .before .before .before .before .before .before .before .before .before .args in
-    (r : Bool) → r ≡ c .is-empty .result && not (not (null (events (left (c .before .before .before .before .before .before .before .before .part .result .now) (a .d) directoryRows (a .guide .now) (a .place .closed) start))))
+    (r : Bool) → r ≡ c .is-empty .result && not (not (null (events (remaining (c .before .before .before .before .before .before .before .before .part .result .now) (a .d) directoryRows (a .guide .now) (a .place .closed) start))))
     → r ≡ accepted (reportAt (a .d) (tableWith (a .known) (a .guide .now)) (a .body .now) (a .at) [])
 
 judged : (c : tie.After-is-empty) → Judged c

@@ -5,7 +5,7 @@ use mathlib.Core.List.{map}
 use native.Mathlib.Omega.{arith}
 use lib.ListN.{length}
 use Rattle.findings.specs.Events.{written}
-use Rattle.findings.specs.Left.{left, events}
+use Rattle.findings.specs.Remaining.{remaining, events}
 use Rattle.findings.specs.Steps as steps
 use Rattle.findings.proofs.Told.{step-quiet, step-segment, step-element, step-done}
 use Rattle.notes.proofs.Sofar.{Sofar, begin, stay, turn, ends}
@@ -14,10 +14,10 @@ use Rattle.notes.proofs.put_notes.Tie as tie
 
 abbrev Inv-loop : tie.InvT-loop
 Inv-loop out₀ set d directory guide closed n₀ segments₀ w₀ out n segments w =
-    Sofar d (map written (events (left set d directory guide closed steps.start))) (map written (events (left set d directory guide closed w))) n segments out₀ out
+    Sofar d (map written (events (remaining set d directory guide closed steps.start))) (map written (events (remaining set d directory guide closed w))) n segments out₀ out
 
 abbrev μ-loop : tie.MeasureT-loop
-μ-loop out₀ set d directory guide closed n₀ segments₀ w₀ out n segments w = length (left set d directory guide closed w)
+μ-loop out₀ set d directory guide closed n₀ segments₀ w₀ out n segments w = length (remaining set d directory guide closed w)
 
 start-requires : tie.Need-start-requires Inv-loop μ-loop
 start-requires c κs = search needs
