@@ -32,7 +32,7 @@ use Rattle.verdicts.specs.Verdicts.{trailerIf, otherControl, otherCount, setCod
 use Rattle.verdicts.specs.declared.Codes.{Codes}
 use Rattle.verdicts.proofs.Laws.{closed-if, trailer-if, set-codes}
 use Rattle.findings.specs.Events.{flat, written}
-use Rattle.findings.specs.Left.{events, left}
+use Rattle.findings.specs.Remaining.{events, remaining}
 use Rattle.findings.specs.Steps.{start}
 use Rattle.findings.proofs.Linked.{walk-notes}
 use Rattle.findings.proofs.Told.{written-flat, null-flat}
@@ -157,17 +157,17 @@ module _ {d : Delimiters} {s : Set} {closed : Bool} {n : ℕ} {bs st se : Bytes}
     notes = notesIn d (some (tableOf ids rows)) s
 
     -- the events of a walk through the set are its notes
-    events-are : events (left bs d ids rows closed start) ≡ flat notes
+    events-are : events (remaining bs d ids rows closed start) ≡ flat notes
     events-are =
         rw (walk-notes bs d ids rows closed limits (parts .short) (sym (parts .whole)), ← parts .trailer, ← closed-if closed (split (d .element) se), Bool·not-not closed)
 
     -- what the walk says is its notes
-    pub notes-are : map written (events (left bs d ids rows closed start)) ≡ ak3s notes
+    pub notes-are : map written (events (remaining bs d ids rows closed start)) ≡ ak3s notes
     notes-are = rw events-are (written-flat _)
 
     -- no code but 5 and 23, and no note
     pub clean-is : (codes : Codes) {fine r : Bool} → codesOf codes ≡ setCodes (some (tableOf ids rows)) [] [] s → fine ≡ null (codesOf codes)
-        → r ≡ fine && not (not (null (events (left bs d ids rows closed start))))
+        → r ≡ fine && not (not (null (events (remaining bs d ids rows closed start))))
         → r ≡ accepted (setReport d (some (tableOf ids rows)) [] s)
     unfolding setReport
     clean-is codes f g h =

@@ -29,7 +29,7 @@ use Rattle.elements.specs.Places.{noteCode}
 use Rattle.elements.proofs.Places.{place-codes}
 use Rattle.findings.specs.Events.{Event, Line, Element, flat}
 use Rattle.findings.specs.Steps.{bumped, start, compared, stands, ownOf, checkOf, presentOf, passingOf, isChecked, codesOf}
-use Rattle.findings.specs.Left.{Slots, events, missingThen, foundSlot, surplusSlot, codesThen, placesThen, lined, segmentThen, trailerSlots, walkSlots, setSlots, left}
+use Rattle.findings.specs.Remaining.{Slots, events, missingThen, foundSlot, surplusSlot, codesThen, placesThen, lined, segmentThen, trailerSlots, walkSlots, setSlots, remaining}
 use Rattle.findings.specs.declared.Present.{Present}
 use Rattle.findings.specs.declared.Standing.{Standing}
 use Rattle.findings.specs.declared.Standing.the-variants.{Unknown, Unlisted, Before, Again, Later}
@@ -477,8 +477,8 @@ segments-few d s = simp length-map (pieces-few (d .terminator) s)
 -- Document 01: the events of a walk from the start are the notes of the set, by the table that the guide means.
 pub walk-notes : (set : Bytes) (d : Delimiters) (ids : List (List ℕ)) (rows : Guide) (closed : Bool)
     → Limits rows → Small (length set) → {header : Segment} {after : List Segment} → segments d set ≡ header ∷ after
-    → events (left set d ids rows closed start) ≡ flat (notesOf d (tableOf ids rows) closed header after)
-unfolding left start setSlots notesOf idsAreBytes events indexAt
+    → events (remaining set d ids rows closed start) ≡ flat (notesOf d (tableOf ids rows) closed header after)
+unfolding remaining start setSlots notesOf idsAreBytes events indexAt
 walk-notes set d ids rows closed limits short {header} {after} e =
     let fewer = segments-few d set in
     let few : length after < length set = omega (arith, ap length e) in

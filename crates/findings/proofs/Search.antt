@@ -15,7 +15,7 @@ use Rattle.text.specs.Text.{indexWhere}
 use Rattle.tables.specs.Reading.{Guide, nextMandatory, isMandatoryRow, idAt, idBytes}
 use Rattle.findings.specs.Events.{Event, Line}
 use Rattle.findings.specs.Steps.{nextMissing}
-use Rattle.findings.specs.Left.{Slots, missingThen}
+use Rattle.findings.specs.Remaining.{Slots, missingThen}
 use Rattle.findings.specs.declared.Missing.{Missing}
 use Rattle.findings.specs.declared.Missing.the-variants.{Row, Nothing}
 

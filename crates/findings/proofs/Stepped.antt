@@ -7,7 +7,7 @@ use native.Mathlib.Omega.{arith}
 use borrow.Author.Tests.{lt-ltb, ltb-true, ltb-false, eqb-true, ne-eqb}
 use lib.Dec.{ltb, eqb}
 use lib.ListN.{length, take, drop, getD}
-use lib.Seq.{slice, drop-nil, drop-drop, getD-drop}
+use lib.Seq.{drop-nil, drop-drop, getD-drop}
 use Rattle.rules.specs.Base.{Bytes, ascii, all, between, isUpperOrDigit, every, if_then_else_}
 use Rattle.rules.specs.Cutting.{Segment, field, split}
 use Rattle.rules.specs.Tables.{Syntax}
@@ -25,7 +25,7 @@ use Rattle.tables.proofs.Laws.{row-within}
 use Rattle.elements.specs.declared.Coded.{Coded}
 use Rattle.findings.specs.Events.{Event, Line, Element}
 use Rattle.findings.specs.Steps.{bumped, to, echo, stands, movedTo, taken, codesOf, isPlaceRow, placeRow, headerStep, openBy, openStep, readStep, inHand, isFaulty, lineStep, nextMissing, passBy, passStep, nextPlace, toldOf, elementStep, placeStep, trailerBy, trailerStep, stepAt, step}
-use Rattle.findings.specs.Left.{Slots, missingThen, foundSlot, surplusSlot, codeOf, codeSlot, codesThen, placesThen, placesFrom, lined, segmentThen, trailerSlots, walkSlots, setSlots, after, leftAt, left, said}
+use Rattle.findings.specs.Remaining.{Slots, missingThen, foundSlot, surplusSlot, codeOf, codeSlot, codesThen, placesThen, placesFrom, lined, segmentThen, trailerSlots, walkSlots, setSlots, after, remainingAt, remaining, said}
 use Rattle.findings.specs.declared.Phase.{Phase}
 use Rattle.findings.specs.declared.Phase.the-variants.{Header, Read, Passing, Place, Trailer}
 use Rattle.findings.specs.declared.Walk.{Walk}
@@ -109,11 +109,11 @@ module _ (d : Delimiters) (notes : List Syntax) (s : Segment) (n : ℕ) (rest : 
       sym (rw (drop-drop, q, getD-drop) at (places-at (drop k rows)))
 
 module _ (set : Bytes) (d : Delimiters) (ids : List (List ℕ)) (rows : Guide) (closed : Bool) where
-  abbrev leftBy : Walk → Slots
-  leftBy = left set d ids rows closed
+  abbrev remainingBy : Walk → Slots
+  remainingBy = remaining set d ids rows closed
 
   abbrev remains : Walk → Phase → Slots
-  remains = leftAt set d ids rows closed
+  remains = remainingAt set d ids rows closed
 
   abbrev onward : Walk → Slots
   onward = after set d ids rows closed
@@ -125,19 +125,19 @@ module _ (set : Bytes) (d : Delimiters) (ids : List (List ℕ)) (rows : Guide) (
   says = said set d ids rows closed
 
   -- another phase of the same walk
-  left-to : (w : Walk) (p : Phase) → leftBy (to w p) ≡ remains w p
-  unfolding left to
-  left-to w Header = refl
-  left-to w Read = refl
-  left-to w (Passing k) = refl
-  left-to w (Place k n told) = refl
-  left-to w (Trailer k e) = refl
+  remaining-to : (w : Walk) (p : Phase) → remainingBy (to w p) ≡ remains w p
+  unfolding remaining to
+  remaining-to w Header = refl
+  remaining-to w Read = refl
+  remaining-to w (Passing k) = refl
+  remaining-to w (Place k n told) = refl
+  remaining-to w (Trailer k e) = refl
 
   -- 3. Reading.
   module _ (w : Walk) (end : ℕ) (h : w .at < length set) (q : end ≡ w .at + indexOf (d .terminator) (drop (w .at) set)) where
     taken-law : onward w
-        ≡ [] ∷ leftBy (taken rows w end (stands ids rows (w .present .row) (field (split (d .element) (take (end - w .at) (drop (w .at) set))) 0)))
-    unfolding left taken walkSlots
+        ≡ [] ∷ remainingBy (taken rows w end (stands ids rows (w .present .row) (field (split (d .element) (take (end - w .at) (drop (w .at) set))) 0)))
+    unfolding remaining taken walkSlots
     taken-law = rw (segments-at d set (w .at) end h q)
 
   read-law : (w : Walk) → onward w ≡ says (readStep set d ids rows closed w)
@@ -155,7 +155,7 @@ module _ (set : Bytes) (d : Delimiters) (ids : List (List ℕ)) (rows : Guide) (
       opened Unlisted = refl
       opened (Before k) = refl
       opened Again = refl
-      opened (Later k) = ap (λ (l : Slots). [] ∷ l) (sym (left-to w (Trailer (bumped (w .present .row)) k)))
+      opened (Later k) = ap (λ (l : Slots). [] ∷ l) (sym (remaining-to w (Trailer (bumped (w .present .row)) k)))
 
       ended : (c : Bool)
           → (if c then [] else trailerSlots d ids rows closed (w .present) (bumped (w .hand .position)) (stands ids rows (w .present .row) (ascii "SE")))
@@ -168,7 +168,7 @@ module _ (set : Bytes) (d : Delimiters) (ids : List (List ℕ)) (rows : Guide) (
       go false h = rw (segments-none d set (w .at) (ltb-false (w .at) (length set) h)) (ended closed)
 
   header-law : (w : Walk) → remains w Header ≡ says (headerStep set d w)
-  unfolding headerStep setSlots left missingThen
+  unfolding headerStep setSlots remaining missingThen
   header-law w = go (ltb (w .at) (length set)) refl
     where
       end : ℕ
@@ -197,16 +197,16 @@ module _ (set : Bytes) (d : Delimiters) (ids : List (List ℕ)) (rows : Guide) (
       places : Slots
       places = placesThen d (entryAt rows (w .hand .check) .notes) (inside w) (drop (bumped (w .hand .check)) rows) 1 (onward w)
 
-      placed : leftBy (to w place) ≡ places
-      placed = left-to w place ∙ places-start d (entryAt rows (w .hand .check) .notes) (inside w) 1 (onward w) rows (bumped (w .hand .check))
+      placed : remainingBy (to w place) ≡ places
+      placed = remaining-to w place ∙ places-start d (entryAt rows (w .hand .check) .notes) (inside w) 1 (onward w) rows (bumped (w .hand .check))
 
       go : (f z : Bool) → eqb (w .hand .own) 0 ≡ z
           → lined (echoed id) (w .hand .position) (codesOf (w .hand .own) f) ∷ (if f then places else onward w)
           ≡ says (if f then tell.Segment (told f) (to w place) else (if z then Quiet (to w Read) else tell.Segment (told f) (to w Read)))
       go true true e = rw (e, echo-law id, placed)
       go true false e = rw (e, echo-law id, placed)
-      go false true e = rw (e, left-to w Read)
-      go false false e = rw (e, echo-law id, left-to w Read)
+      go false true e = rw (e, remaining-to w Read)
+      go false false e = rw (e, echo-law id, remaining-to w Read)
 
   -- 5. Passing over entries.
   pass-law : (w : Walk) (k : ℕ) → remains w (Passing k) ≡ says (passStep set d rows w k)
@@ -217,7 +217,7 @@ module _ (set : Bytes) (d : Delimiters) (ids : List (List ℕ)) (rows : Guide) (
       note = segmentThen d ids rows closed (w .hand .own) (w .hand .check) (w .hand .position) (inside w) (onward w)
 
       go : (m : Missing) → missedBy (w .hand .position) note rows (w .present .row) m ≡ says (passBy set d rows w m)
-      go (Row m) = rw (left-to w (Passing (m + 1)))
+      go (Row m) = rw (remaining-to w (Passing (m + 1)))
       go Nothing = line-law w
 
   trailer-law : (w : Walk) (k e : ℕ) → remains w (Trailer k e) ≡ says (trailerStep rows w k e)
@@ -225,15 +225,15 @@ module _ (set : Bytes) (d : Delimiters) (ids : List (List ℕ)) (rows : Guide) (
   trailer-law w k e = miss-law (bumped (w .hand .position)) [] rows k e ∙ go (nextMissing rows k e)
     where
       go : (m : Missing) → missedBy (bumped (w .hand .position)) [] rows e m ≡ says (trailerBy rows w e m)
-      go (Row m) = rw (left-to w (Trailer (m + 1) e))
+      go (Row m) = rw (remaining-to w (Trailer (m + 1) e))
       go Nothing = refl
 
   -- 6. The places of the segment in hand.
   told-law : (f : Finding) (v : Walk)
-      → foundSlot (f .place) (f .reference) (f .code) ∷ leftBy v ≡ says (toldOf f v)
+      → foundSlot (f .place) (f .reference) (f .code) ∷ remainingBy v ≡ says (toldOf f v)
   told-law f v = go (eqb (f .code) 0)
     where
-      go : (b : Bool) → (if b then [] else Element f ∷ []) ∷ leftBy v ≡ says (if b then Quiet v else tell.Element f v)
+      go : (b : Bool) → (if b then [] else Element f ∷ []) ∷ remainingBy v ≡ says (if b then Quiet v else tell.Element f v)
       go true = refl
       go false = refl
 
@@ -295,11 +295,11 @@ module _ (set : Bytes) (d : Delimiters) (ids : List (List ℕ)) (rows : Guide) (
           next = nextPlace here n (coded .more)
 
           ended : isRow 2 row ≡ false → remains w (Place k n told) ≡ says (toldOf surplus (to w Read))
-          ended f = in-none k f told ∙ rw (left-to w Read) at (told-law surplus (to w Read))
+          ended f = in-none k f told ∙ rw (remaining-to w Read) at (told-law surplus (to w Read))
 
           go : (b : Bool) → ltb here (length rows) ≡ b → (c : Bool) → isRow 2 row ≡ c
               → remains w (Place k n told) ≡ says (if b && c then toldOf own (to w next) else toldOf surplus (to w Read))
-          go true e true f = code-law f ∙ rw (left-to w next) at (told-law own (to w next))
+          go true e true f = code-law f ∙ rw (remaining-to w next) at (told-law own (to w next))
           go true e false f = ended f
           go false e true f = absurd (true≢false (sym (lt-ltb here (length rows) (element-in rows here f)) ∙ e))
           go false e false f = ended f
@@ -311,8 +311,8 @@ module _ (set : Bytes) (d : Delimiters) (ids : List (List ℕ)) (rows : Guide) (
   by-phase w (Place k n told) = place-law w n k told
   by-phase w (Trailer k e) = trailer-law w k e
 
-  pub step-law : (w : Walk) → left set d ids rows closed w ≡ said set d ids rows closed (step set d ids rows closed w)
-  unfolding left step
+  pub step-law : (w : Walk) → remaining set d ids rows closed w ≡ said set d ids rows closed (step set d ids rows closed w)
+  unfolding remaining step
   step-law w = by-phase w (w .phase)
 
   -- a step in a known phase

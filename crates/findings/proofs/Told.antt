@@ -14,7 +14,7 @@ use Rattle.rules.specs.declared.Finding.{Finding}
 use Rattle.tables.specs.Reading.{Guide}
 use Rattle.findings.specs.Events.{Event, Line, Element, flat, written}
 use Rattle.findings.specs.Steps.{step}
-use Rattle.findings.specs.Left.{Slots, events, left, lineEvent, said}
+use Rattle.findings.specs.Remaining.{Slots, events, remaining, lineEvent, said}
 use Rattle.findings.specs.declared.Walk.{Walk}
 use Rattle.findings.specs.declared.Line as line
 use Rattle.findings.specs.declared.Step.the-variants.{Quiet, Done}
@@ -32,21 +32,21 @@ events-cons told more = refl
 
 -- 2. What is told of a walk on the way from w to v, and how far it has come.
 pub record Tells (set : Bytes) (d : Delimiters) (ids : List (List ℕ)) (rows : Guide) (closed : Bool) (w v : Walk) (told : List Event) : Type 0 where
-  pub slots : left set d ids rows closed w ≡ told ∷ left set d ids rows closed v
-  pub tells : events (left set d ids rows closed w) ≡ told ++ events (left set d ids rows closed v)
-  pub fewer : length (left set d ids rows closed v) < length (left set d ids rows closed w)
+  pub slots : remaining set d ids rows closed w ≡ told ∷ remaining set d ids rows closed v
+  pub tells : events (remaining set d ids rows closed w) ≡ told ++ events (remaining set d ids rows closed v)
+  pub fewer : length (remaining set d ids rows closed v) < length (remaining set d ids rows closed w)
 
 pub record Ends (set : Bytes) (d : Delimiters) (ids : List (List ℕ)) (rows : Guide) (closed : Bool) (w : Walk) : Type 0 where
-  pub slots : left set d ids rows closed w ≡ []
-  pub tells : events (left set d ids rows closed w) ≡ []
+  pub slots : remaining set d ids rows closed w ≡ []
+  pub tells : events (remaining set d ids rows closed w) ≡ []
 
 module _ {set : Bytes} {d : Delimiters} {ids : List (List ℕ)} {rows : Guide} {closed : Bool} {w : Walk} where
-  slot-tells : {v : Walk} {told : List Event} → left set d ids rows closed w ≡ told ∷ left set d ids rows closed v
+  slot-tells : {v : Walk} {told : List Event} → remaining set d ids rows closed w ≡ told ∷ remaining set d ids rows closed v
       → Tells set d ids rows closed w v told
   slot-tells {v} {told} q =
       record {
         slots = q;
-        tells = ap events q ∙ events-cons told (left set d ids rows closed v);
+        tells = ap events q ∙ events-cons told (remaining set d ids rows closed v);
         fewer = omega (arith, ap length q);
       }
 

@@ -2,7 +2,7 @@
 -- rest decides.
 use mathlib.Core.Path.{_≡_, refl, sym, ap, _∙_}
 use mathlib.Core.Bool.{Bool, true, false, not}
-use mathlib.Core.List.{List, [], _∷_, _++_}
+use mathlib.Core.List.{List, [], _∷_}
 use Prim.Native.Nat.{ℕ, _+_, _-_, _<_, _≤_}
 use native.Mathlib.Omega.{arith}
 use lib.Dec.{eqb, ltb}
@@ -18,7 +18,7 @@ use Rattle.segments.proofs.Pieces.{segments-at, segments-none}
 use Rattle.tables.specs.Reading.{Guide, entryAt, isMandatoryRow}
 use Rattle.findings.specs.Events.{Event}
 use Rattle.findings.specs.Steps.{bumped, start, stands, ownOf, checkOf, presentOf, passingOf, nextMissing}
-use Rattle.findings.specs.Left.{Slots, events, missingThen, segmentThen, trailerSlots, walkSlots, setSlots, left}
+use Rattle.findings.specs.Remaining.{Slots, events, missingThen, segmentThen, trailerSlots, walkSlots, setSlots, remaining}
 use Rattle.findings.specs.Turns.{isMissing, usedAgain, usedAnew, turnBy, turnOf, passesBy, passesAny}
 use Rattle.findings.specs.declared.Missing.{Missing}
 use Rattle.findings.specs.declared.Missing.the-variants.{Row, Nothing}
@@ -143,11 +143,11 @@ module _ (d : Delimiters) (ids : List (List ℕ)) (rows : Guide) (closed : Bool)
 -- 5. At a cursor: the rest of a walk tells what the whole tells.
 module _ (set : Bytes) (d : Delimiters) (ids : List (List ℕ)) (rows : Guide) (closed : Bool) where
   abbrev told : List Event
-  told = events (left set d ids rows closed start)
+  told = events (remaining set d ids rows closed start)
 
   -- a set without a segment
   pub none-told : length set ≡ 0 → null told ≡ true
-  unfolding left start setSlots events
+  unfolding remaining start setSlots events
   none-told h = rw (segments-none d set 0 (omega arith))
 
   pub record Decides (at : ℕ) (p : Present) : Type 0 where
@@ -163,7 +163,7 @@ module _ (set : Bytes) (d : Delimiters) (ids : List (List ℕ)) (rows : Guide) (
     rest = walkSlots d ids rows closed (record { row = 0; used = 1 }) 2 (segments d (drop (end + 1) set))
 
     by-header : events (segmentThen d ids rows closed 0 0 1 header rest) ≡ told
-    unfolding left start setSlots events
+    unfolding remaining start setSlots events
     by-header = let z : end - 0 ≡ end = omega arith in rw (segments-at d set 0 end h q, z)
 
     pub header-faulty : null (findings d (entryAt rows 0) header) ≡ false → null told ≡ false

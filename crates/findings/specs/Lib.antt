@@ -1,4 +1,4 @@
 pub mod Events
 pub mod Steps
-pub mod Left
+pub mod Remaining
 pub mod Turns

@@ -8,7 +8,7 @@ ghost use Rattle.rules.specs.Base.{all, between, isUpperOrDigit, null, if_then_
 ghost use Rattle.rules.specs.Cutting as cutting;
 ghost use Rattle.tables.specs.Reading.{entryAt};
 ghost use Rattle.findings.specs.Steps as steps;
-ghost use Rattle.findings.specs.Left as rest;
+ghost use Rattle.findings.specs.Remaining as rest;
 ghost use Rattle.findings.specs.Turns as turns;
 ghost use Rattle.findings.specs.declared.Standing.the-variants as standing;
 ghost use Rattle.findings.specs.declared.Phase.the-variants as phase;
@@ -296,7 +296,7 @@ fn header(set: &[u8], d: Delimiters, w: Walk) -> Step
 }
 
 // The last step for SE, which is missing, with no note for SE itself.
-fn end_open(directory: &[[u8; 3]], guide: &[[u16; 6]], w: Walk) -> Step
+fn missing_trailer(directory: &[[u8; 3]], guide: &[[u16; 6]], w: Walk) -> Step
     ensures { λ r. ⌜ r ≡ steps.openStep (now (directory .entry)) (now (guide .entry)) w ⌝ }
 {
     match stands(&rules::SE, directory, guide, w.present.row) {
@@ -326,7 +326,7 @@ fn read(
     if closed {
         return Step::Done;
     }
-    end_open(directory, guide, w)
+    missing_trailer(directory, guide, w)
 }
 
 // The first mandatory segment from row `from` on and before row `end`.
@@ -592,7 +592,7 @@ pub fn is_noted(
     guide: &[[u16; 6]],
     closed: bool,
 ) -> bool
-    ensures { λ r. ⌜ r ≡ not (null (rest.events (rest.left (now (set .entry)) d (now (directory .entry)) (now (guide .entry)) closed steps.start))) ⌝ }
+    ensures { λ r. ⌜ r ≡ not (null (rest.events (rest.remaining (now (set .entry)) d (now (directory .entry)) (now (guide .entry)) closed steps.start))) ⌝ }
 {
     if set.len() == 0 {
         return false;

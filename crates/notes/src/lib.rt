@@ -7,7 +7,7 @@ ghost use Rattle.rules.specs.Numbers.{decimal};
 ghost use Rattle.rules.specs.Response.{fieldsOut, segmentOut, ak4};
 ghost use Rattle.tables.specs.Reading.{idBytes};
 ghost use Rattle.findings.specs.Events as events;
-ghost use Rattle.findings.specs.Left as rest;
+ghost use Rattle.findings.specs.Remaining as rest;
 ghost use Rattle.findings.specs.Steps.{codesOf, start};
 ghost use Rattle.notes.specs.Saying.{toldIn, Adds, Tells};
 ghost use Rattle.writing.specs.Over.{sat, From};
@@ -97,7 +97,7 @@ pub fn put_notes(
     guide: &[[u16; 6]],
     closed: bool,
 ) -> Told
-    ensures { λ r. ⌜ Tells d (map events.written (rest.events (rest.left (now (set .entry)) d (now (directory .entry)) (now (guide .entry)) closed start))) r (now (out .entry)) (now (out .exit)) ⌝ }
+    ensures { λ r. ⌜ Tells d (map events.written (rest.events (rest.remaining (now (set .entry)) d (now (directory .entry)) (now (guide .entry)) closed start))) r (now (out .entry)) (now (out .exit)) ⌝ }
 {
     let mut told = Told {
         length: 0,

@@ -8,12 +8,12 @@ use native.Mathlib.Omega.{arith}
 use lib.Dec.{leb, ltb, eqb}
 use lib.ListN.{length, take, drop, getD, length-append, length-map}
 use borrow.Author.Tests.{leb-true}
-use Rattle.rules.specs.Base.{Bytes, Rule, _⇒_, every, null, all, keep, front, last, isNone, listed, isUpperOrDigit, ascii, same, member, if_then_else_}
+use Rattle.rules.specs.Base.{Bytes, Rule, _⇒_, every, null, all, keep, front, last, isNone, listed, isUpperOrDigit, ascii, same, if_then_else_}
 use Rattle.rules.specs.Cutting.{Segment, field, delimiters, cutAt, split, pieces, segments}
 use Rattle.rules.specs.Tables.{Row, Syntax, Entry, Table, editionTable, setTable, table006010, table004010, stRows, stRows6, seRows, b1Rows, l11Rows, k1Rows}
 use Rattle.rules.specs.Elements.{placeCodes, findingsFrom, findings}
 use Rattle.rules.specs.Segments.{Note, Present, Standing, unknown, unlisted, before, again, later, noEntry, entryAt, standing, ownCode, moved, findingsBy, skipped, missing, echoed, noted, segmentNote, walk, notesOf}
-use Rattle.rules.specs.Sets.{Set, isST, isSE, bodyOf, trailerOf, setsOf, segmentsOf, controlOf, notesIn, setCodes, setReport}
+use Rattle.rules.specs.Sets.{Set, isST, isSE, bodyOf, trailerOf, setsOf, controlOf, notesIn, setCodes, setReport}
 use Rattle.rules.specs.Groups.{Group, isGE, groupWith, groupOf, supported, edition, tableIn, setReports, groupCodes, verdict, acceptedIn, groupReport}
 use Rattle.rules.specs.Response.{fieldsOut, segmentOut, out, ak3s, block, blocks, stOut, seOut, told, transactionSet, geOut, ieaOut, respond, response}
 use Rattle.rules.specs.declared.Call.{Call}

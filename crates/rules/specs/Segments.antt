@@ -1,6 +1,6 @@
 -- "Notes on segments (AK3)": the walk of a set through its table.
 use Prim.Native.Nat.{ℕ, _+_}
-use mathlib.Core.Bool.{Bool, true, false, _&&_, not}
+use mathlib.Core.Bool.{Bool, _&&_, not}
 use mathlib.Core.List.{List, [], _∷_, _++_, map}
 use mathlib.Core.Option.{Option, none, some}
 use lib.Dec.{ltb, eqb}
@@ -32,23 +32,25 @@ pub data Standing : Type 0 where
   -- its entry, by the index, is before the present one; is the present one; is later
   before again later : ℕ → Standing
 
--- the entry at an index, with nothing in it past the last
+-- what stands past the last entry
 abbrev pub noEntry : Entry
 noEntry = entry [] O 0 [] []
 
+-- the entry at an index
 abbrev pub entryAt : Table → ℕ → Entry
 entryAt t k = getD (t .entries) k noEntry
 
--- the index of the entry with this id, counted from k on
+-- the index of the entry with this id, where there is one; the first of the list has index k
 unfoldable pub indexFrom : ℕ → Bytes → List Entry → Option ℕ
 indexFrom k id [] = none
 indexFrom k id (e ∷ es) = let r = indexFrom (k + 1) id es in if same (e .id) id then some k else r
 
--- which of two entries comes first, the present one or the one at this index
+-- the index against that of the present entry
 abbrev pub compared : ℕ → Option ℕ → Standing
 compared present none = unlisted
 compared present (some k) = if ltb k present then before k else (if eqb k present then again k else later k)
 
+-- how a segment with this id stands
 unfoldable pub standing : Table → Present → Bytes → Standing
 standing t p id = if member id (t .directory) then compared (p .index) (indexFrom 0 id (t .entries)) else unknown
 
@@ -102,7 +104,7 @@ noted id n (c ∷ cs) fs = record { id = id; position = n; codes = c ∷ cs; fin
 unfoldable pub segmentNote : ℕ → ℕ → Bytes → List Finding → List Note
 segmentNote n c id fs = noted (echoed id) n (every ((not (eqb c 0) ⇒ c) ∷ (not (null fs) ⇒ 8) ∷ [])) fs
 
--- the AK3 of the segments from position n on; a missing trailer passes over what lies before SE, and has no note itself
+-- the AK3 of the segments from position n on; after the last, where the trailer is missing, those of the step for SE, but none for SE itself
 unfoldable pub walk : Delimiters → Table → Bool → Present → ℕ → List Segment → List Note
 walk d t closed p n [] = if closed then [] else missing n (skipped t p (standing t p (ascii "SE")))
 walk d t closed p n (s ∷ ss) =
@@ -111,7 +113,7 @@ walk d t closed p n (s ∷ ss) =
     ++ segmentNote n (ownCode t p st) (field s 0) (findingsBy d t st s)
     ++ walk d t closed (moved p st) (n + 1) ss
 
--- all AK3 of a set: its header, at position 1, is the first use of the table's first entry, ST; the walk goes on from there
+-- all AK3 of a set: the header, at position 1, is the first use of the first entry, ST; the walk goes on from there with those after it
 unfoldable pub notesOf : Delimiters → Table → Bool → Segment → List Segment → List Note
 notesOf d t closed header after =
     segmentNote 1 0 (field header 0) (findings d (entryAt t 0) header)

@@ -25,7 +25,7 @@ returns-2 c = rw (le-ltb _ _ (c .before .if1 .left), c .if2 .taken)
 
 returns-3 : tie.Need-returns-3
 unfolding steps.readStep
-returns-3 c = rw (le-ltb _ _ (c .before .before .if1 .left), c .before .if2 .left, c .end-open .ensures)
+returns-3 c = rw (le-ltb _ _ (c .before .before .if1 .left), c .before .if2 .left, c .missing-trailer .ensures)
 
 pub read-spec : {M : Type 1} → statement M
 read-spec =

@@ -5,7 +5,7 @@ use mathlib.Core.List.{List, [], _++_, map, map-append}
 use native.Mathlib.Omega.{arith}
 use lib.ListN.{length}
 use Rattle.findings.specs.Events.{Event, written}
-use Rattle.findings.specs.Left.{left, events}
+use Rattle.findings.specs.Remaining.{remaining, events}
 use Rattle.findings.specs.Steps as steps
 use Rattle.findings.specs.declared.Step.{Step}
 use Rattle.findings.proofs.Told.{step-quiet, step-segment, step-element, step-done}
@@ -21,10 +21,10 @@ carried {s} {t} {es} fs e f = rw (e, f) (map-append written (toldIn t) fs)
 
 abbrev Inv-loop : tie.InvT-loop
 Inv-loop out₀ set d directory guide closed told₀ w₀ out told w =
-    Sofar d (map written (events (left set d directory guide closed steps.start))) (map written (events (left set d directory guide closed w))) told out₀ out
+    Sofar d (map written (events (remaining set d directory guide closed steps.start))) (map written (events (remaining set d directory guide closed w))) told out₀ out
 
 abbrev μ-loop : tie.MeasureT-loop
-μ-loop out₀ set d directory guide closed told₀ w₀ out told w = length (left set d directory guide closed w)
+μ-loop out₀ set d directory guide closed told₀ w₀ out told w = length (remaining set d directory guide closed w)
 
 loop-holds : tie.Need-loop-holds Inv-loop μ-loop
 loop-holds c = rw (c .start .ensures) (begin _ _ _ (omega arith))

@@ -6,7 +6,7 @@ use native.Mathlib.Omega.{arith}
 use Rattle.rules.specs.Base.{null, any}
 use Rattle.rules.specs.Sets.{accepted}
 use Rattle.guides.specs.Choice.{rowsAt}
-use Rattle.findings.specs.Left.{events, left}
+use Rattle.findings.specs.Remaining.{events, remaining}
 use Rattle.findings.specs.Steps.{start}
 use Rattle.acknowledgment.specs.Received.{reportOf}
 use Rattle.acknowledgment.proofs.Blocks.{parts-at, nowhere-rejects, clean-is}
@@ -22,7 +22,7 @@ abbrev Judged : tie.After-is-empty → Type 0
 Judged c =
     let a = c .before .before .before .before .before .before .before .before .args in
     let table = c .before .before .before .before .before .table .given .0 in
-    (r : Bool) → r ≡ c .is-empty .result && not (not (null (events (left (c .before .before .part .result .now) (a .d) (a .directory .now) (rowsAt (a .rows .now) (table .0) (table .1 .0)) (a .set .place .closed) start))))
+    (r : Bool) → r ≡ c .is-empty .result && not (not (null (events (remaining (c .before .before .part .result .now) (a .d) (a .directory .now) (rowsAt (a .rows .now) (table .0) (table .1 .0)) (a .set .place .closed) start))))
     → r ≡ accepted (reportOf (a .d) (a .directory .now) (a .rows .now) (a .body .now) (a .set) [])
 
 judged : (c : tie.After-is-empty) → Judged c

@@ -1,11 +1,11 @@
--- `findings::end_open` meets its contract.
+-- `findings::missing_trailer` meets its contract.
 use Rattle.findings.specs.Steps as steps
 use Rattle.findings.proofs.Other.{not-later}
 use mathlib.Core.Path.{_≡_, refl}
 use Rattle.findings.specs.declared.Step.the-variants.{Done}
 use borrow.Author.Needs.{needs}
-use Rattle.findings.proofs.end_open.Statement.{statement}
-use Rattle.findings.proofs.end_open.Tie as tie
+use Rattle.findings.proofs.missing_trailer.Statement.{statement}
+use Rattle.findings.proofs.missing_trailer.Tie as tie
 
 returns : tie.Need-returns
 unfolding steps.openStep
@@ -17,8 +17,8 @@ returns-2 c =
     let w = c .before .before .before .args .w in
     rw (← c .before .stands .ensures) (not-later (λ st. Done ≡ steps.openBy w st) refl refl (λ k. refl) refl (c .before .stands .result) (c .match .keys2))
 
-pub end-open-spec : {M : Type 1} → statement M
-end-open-spec =
+pub missing-trailer-spec : {M : Type 1} → statement M
+missing-trailer-spec =
     tie.close
     (tie.spec
     (λ c. search needs)

@@ -3,7 +3,7 @@ use Prim.Native.Nat.{ℕ, _+_}
 use mathlib.Core.Bool.{Bool, true, false, _&&_, not}
 use mathlib.Core.List.{List, [], _∷_, _++_}
 use lib.Dec.{ltb, eqb}
-use lib.ListN.{length, take, drop, getD}
+use lib.ListN.{length, drop, getD}
 use lib.Seq.{slice}
 use Rattle.rules.specs.Base.{Bytes, ascii, null, if_then_else_}
 use Rattle.rules.specs.Cutting.{Segment, field, segments}
@@ -12,7 +12,6 @@ use Rattle.tables.specs.Rows.{column, isRow, rowIs, codesIn}
 use Rattle.rules.specs.Elements.{findings}
 use Rattle.rules.specs.Segments.{echoed}
 use Rattle.rules.specs.declared.Delimiters.{Delimiters}
-use Rattle.rules.specs.declared.Finding.{Finding}
 use Rattle.tables.specs.Reading.{Guide, entryAt, idAt, idBytes, isMandatoryRow}
 use Rattle.elements.specs.Places.{nextCode}
 use Rattle.elements.specs.declared.Coded.{Coded}
@@ -118,24 +117,24 @@ module _ (set : Bytes) (d : Delimiters) (ids : List (List ℕ)) (rows : Guide) (
   abbrev pub after : Walk → Slots
   after w = walkSlots d ids rows closed (w .present) (bumped (w .hand .position)) (segments d (drop (w .at) set))
 
-  abbrev pub leftAt : Walk → Phase → Slots
-  leftAt w Header = setSlots d ids rows closed (bumped (w .hand .position)) (segments d (drop (w .at) set))
-  leftAt w Read = after w
-  leftAt w (Passing k) =
+  abbrev pub remainingAt : Walk → Phase → Slots
+  remainingAt w Header = setSlots d ids rows closed (bumped (w .hand .position)) (segments d (drop (w .at) set))
+  remainingAt w Read = after w
+  remainingAt w (Passing k) =
       missingThen (w .hand .position) (slice k (w .present .row) rows)
       (segmentThen d ids rows closed (w .hand .own) (w .hand .check) (w .hand .position) (inHand set d w) (after w))
-  leftAt w (Place k n told) = placesFrom d (entryAt rows (w .hand .check) .notes) (inHand set d w) rows k n told (after w)
-  leftAt w (Trailer k e) = missingThen (bumped (w .hand .position)) (slice k e rows) []
+  remainingAt w (Place k n told) = placesFrom d (entryAt rows (w .hand .check) .notes) (inHand set d w) rows k n told (after w)
+  remainingAt w (Trailer k e) = missingThen (bumped (w .hand .position)) (slice k e rows) []
 
-  unfoldable pub left : Walk → Slots
-  left w = leftAt w (w .phase)
+  unfoldable pub remaining : Walk → Slots
+  remaining w = remainingAt w (w .phase)
 
   abbrev pub lineEvent : line.Line → Event
   lineEvent l = Line (idBytes (l .id)) (l .position) (codesOf (l .own) (l .faulty))
 
   -- what a step says: its event, and what is left after it
   abbrev pub said : Step → Slots
-  said (Quiet v) = [] ∷ left v
-  said (tell.Segment l v) = (lineEvent l ∷ []) ∷ left v
-  said (tell.Element f v) = (Element f ∷ []) ∷ left v
+  said (Quiet v) = [] ∷ remaining v
+  said (tell.Segment l v) = (lineEvent l ∷ []) ∷ remaining v
+  said (tell.Element f v) = (Element f ∷ []) ∷ remaining v
   said Done = []
