@@ -14,32 +14,11 @@ Inv-loop guide from id k₀ k = nextInOrder guide from id ≡ nextInOrder guide 
 abbrev μ-loop : tie.MeasureT-loop
 μ-loop guide from id k₀ k = length guide - k
 
-loop-holds : tie.Need-loop-holds Inv-loop μ-loop
-loop-holds c = search needs
-
-mul-row : tie.Need-mul-row Inv-loop μ-loop
-mul-row c = search needs
-
-shared-slice-copy-out-row : tie.Need-shared-slice-copy-out-row Inv-loop μ-loop
-shared-slice-copy-out-row c = search needs
-
-is-entry-row-requires : tie.Need-is-entry-row-requires Inv-loop μ-loop
-is-entry-row-requires c κs = search needs
-
 returns : tie.Need-returns Inv-loop μ-loop
 returns c = sym (c .before .before .before .before .loop .inv ∙ order-here _ _ _ (c .before .before .before .loop-test .taken) (sym (c .before .is-entry-row .ensures) ∙ c .if1 .taken))
 
-is-mandatory-row-requires : tie.Need-is-mandatory-row-requires Inv-loop μ-loop
-is-mandatory-row-requires c κs = search needs
-
 returns-2 : tie.Need-returns-2 Inv-loop μ-loop
 returns-2 c = sym (c .before .before .before .before .before .before .loop .inv ∙ order-missed _ _ _ (c .before .before .before .before .before .loop-test .taken) (sym (c .before .before .before .is-entry-row .ensures) ∙ c .before .before .if1 .left) (sym (c .before .is-mandatory-row .ensures) ∙ c .if2 .taken))
-
-add-k : tie.Need-add-k Inv-loop μ-loop
-add-k c = search needs
-
-loop-less : tie.Need-loop-less Inv-loop μ-loop
-loop-less c = search needs
 
 loop-again : tie.Need-loop-again Inv-loop μ-loop
 loop-again c = c .before .before .before .before .before .before .loop .inv ∙ order-later _ _ _ (c .before .before .before .before .before .loop-test .taken) (sym (c .before .before .before .is-entry-row .ensures) ∙ c .before .before .if1 .left) (sym (c .before .is-mandatory-row .ensures) ∙ c .if2 .left)
@@ -53,14 +32,14 @@ next-in-order-spec =
     (tie.spec
     Inv-loop
     μ-loop
-    loop-holds
-    mul-row
-    shared-slice-copy-out-row
-    is-entry-row-requires
+    (λ c. search needs)
+    (λ c. search needs)
+    (λ c. search needs)
+    (λ c κs. search needs)
     returns
-    is-mandatory-row-requires
+    (λ c κs. search needs)
     returns-2
-    add-k
-    loop-less
+    (λ c. search needs)
+    (λ c. search needs)
     loop-again
     returns-3)
