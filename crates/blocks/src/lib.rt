@@ -1,4 +1,4 @@
-// The segments of the response's transaction set, ST to SE, each a row of pieces after n bytes of a lent buffer.
+// The segments of the response's transaction set, ST to SE, all but AK3 and AK4: each a row of pieces after n bytes of a lent buffer.
 ghost use mathlib.Core.Path.{_≡_};
 ghost use mathlib.Core.List.{[], _∷_, map};
 ghost use Rattle.rules.specs.Base.{ascii, null, if_then_else_};

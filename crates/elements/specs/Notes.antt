@@ -8,6 +8,7 @@ use Rattle.rules.specs.Tables.{Syntax}
 use Rattle.rules.specs.declared.Relation.{Relation}
 use Rattle.rules.specs.declared.Relation.the-variants.{P, R, E, C, L}
 
+-- the relation between places is broken at place n
 abbrev pub breaksBy : Segment → ℕ → Relation → List ℕ → Bool
 breaksBy s n relation places = lacking s relation places n || excluded s relation places n
 
@@ -24,5 +25,6 @@ abbrev pub concerns : Bool → Syntax → Bool
 concerns true c = isE (c .relation)
 concerns false c = not (isE (c .relation))
 
+-- the note is broken at place n
 abbrev pub breaks : Segment → ℕ → Syntax → Bool
 breaks s n c = breaksBy s n (c .relation) (c .places)

@@ -54,7 +54,7 @@ module _ (xs : List ℕ) (bytes : Bytes) (i : ℕ) where
       go true e = spell-done h (eqb-true _ _ e)
       go false e = spell-long h (eqb-false _ _ e)
 
--- the numbers before the first 0 are those up to its place
+-- the numbers before the first 0 are those up to its index
 pub filled-take : (xs : List ℕ) → take (indexOf 0 xs) xs ≡ filled xs
 unfolding filled indexWhere
 filled-take [] = refl

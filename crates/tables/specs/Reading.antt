@@ -13,25 +13,27 @@ use Rattle.tables.specs.declared.SegmentId.{SegmentId}
 use Rattle.tables.specs.declared.ElementRow.{ElementRow}
 use Rattle.tables.specs.declared.Places.{Places}
 
+-- a table as rows of numbers
 abbrev pub Guide : Type 0
 Guide = List (List ℕ)
 
+-- a number is a byte
 abbrev pub isByte : ℕ → Bool
 isByte n = ltb n 256
 
-abbrev pub mostRows : ℕ
-mostRows = 64
-
--- the entry, the element and the syntax note that row k is, and the code values from there on
+-- the entry that row k is
 abbrev pub entryAt : Guide → ℕ → Entry
 entryAt rows k = entryIs (getD rows k []) (drop (k + 1) rows)
 
+-- the element that row k is
 abbrev pub rowAt : Guide → ℕ → Row
 rowAt rows k = rowIs (getD rows k []) (codesIn (drop (k + 1) rows))
 
+-- the syntax note that row k is
 abbrev pub noteAt : Guide → ℕ → Syntax
 noteAt rows k = record { relation = relationOf (column (getD rows k []) 1); places = filled (take 4 (drop 2 (getD rows k []))) }
 
+-- the code values from row k on
 abbrev pub codesAt : Guide → ℕ → List Bytes
 codesAt rows k = codesIn (drop k rows)
 
@@ -60,9 +62,11 @@ placesAt rows k =
 abbrev pub idIn : List ℕ → List ℕ
 idIn r = take 3 (drop 1 r)
 
+-- a row is a segment with this id
 abbrev pub isEntryRow : Bytes → List ℕ → Bool
 isEntryRow id r = isRow 1 r && same (filled (idIn r)) id
 
+-- a row is a mandatory segment
 abbrev pub isMandatoryRow : List ℕ → Bool
 isMandatoryRow r = isRow 1 r && eqb (column r 4) 1
 
@@ -89,7 +93,12 @@ idBytes i = filled (i .first ∷ i .second ∷ i .third ∷ [])
 unfoldable pub idsAreBytes : Guide → Bool
 idsAreBytes rows = all (λ r. not (isRow 1 r) || all isByte (idIn r)) rows
 
--- what readers of a guide may lean on: it begins with a segment, has few rows, and its ids are bytes
+-- no table has more rows: the body of a table in a file has at most 65,535 bytes, and a row takes one at least
+abbrev pub mostRows : ℕ
+mostRows = 65535
+
+-- What readers of a guide may lean on: it begins with a segment, has no more rows than a table can have, and its ids are bytes.
+-- Any table of up to 64 entries, with up to 30 elements and 10 notes each and any number of code values, keeps it.
 pub record Limits (rows : Guide) : Type 0 where
   pub begins : isRow 1 (getD rows 0 []) ≡ true
   pub few : length rows ≤ mostRows

@@ -5,7 +5,7 @@ ghost use mathlib.Core.List.{[]};
 ghost use Prim.Native.Nat.{_%_};
 ghost use lib.ListN.{getD, drop};
 ghost use Rattle.rules.specs.Base.{same, member, null};
-ghost use Rattle.tables.specs.Rows.{isRow, filled, kindOf, relationOf, rowIs, idsIn};
+ghost use Rattle.tables.specs.Rows.{isRow, filled, kindOf, relationOf, idsIn};
 ghost use Rattle.text.specs.Text.{nextWhere, indexOf};
 ghost use Rattle.tables.specs.Reading.{entryAt, rowAt, noteAt, codesAt, idIn, isEntryRow, isMandatoryRow, entryRow, nextMandatory, idAt, rowBelow, elementRow, placesAt};
 use rules::Kind;
@@ -65,9 +65,6 @@ const LONGEST: usize = 5;
 
 // The columns of a note's row: its relation, and from the second on its places.
 const RELATION: usize = 1;
-
-// A row that is nothing.
-const NO_ROW: [u16; 6] = [0, 0, 0, 0, 0, 0];
 
 // The id of a segment by value: two or three bytes, the third 0 where there are two.
 pub struct SegmentId {
@@ -256,26 +253,17 @@ pub fn most_uses(guide: &[[u16; 6]], k: usize) -> usize
     wide_number(guide, k, MOST)
 }
 
-fn element_in(row: [u16; 6]) -> ElementRow
-    ensures { λ r. ⌜ r ≡ elementRow (rowIs row []) ⌝ }
-{
-    ElementRow {
-        reference: row[REFERENCE],
-        mandatory: row[MANDATORY] == M,
-        kind: kind_of(row[KIND]),
-        shortest: wide(row[SHORTEST]),
-        longest: wide(row[LONGEST]),
-    }
-}
-
 // The element of row k.
 pub fn element_at(guide: &[[u16; 6]], k: usize) -> ElementRow
     ensures { λ r. ⌜ r ≡ elementRow (rowAt (now (guide .entry)) k) ⌝ }
 {
-    if k < guide.len() {
-        return element_in(guide[k]);
+    ElementRow {
+        reference: number(guide, k, REFERENCE),
+        mandatory: number(guide, k, MANDATORY) == M,
+        kind: kind_of(number(guide, k, KIND)),
+        shortest: wide_number(guide, k, SHORTEST),
+        longest: wide_number(guide, k, LONGEST),
     }
-    element_in(NO_ROW)
 }
 
 // The relation of the note in row k.

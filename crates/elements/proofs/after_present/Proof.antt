@@ -17,56 +17,17 @@ Inv-loop s e places i₀ i = (i ≤ length places) × (afterPresent (split e s) 
 abbrev μ-loop : tie.MeasureT-loop
 μ-loop s e places i₀ i = length places - i
 
-loop-holds : tie.Need-loop-holds Inv-loop μ-loop
-loop-holds c = search needs
-
-place-at-requires : tie.Need-place-at-requires Inv-loop μ-loop
-place-at-requires c κs = search needs
-
-add-i : tie.Need-add-i Inv-loop μ-loop
-add-i c = search needs
-
-is-present-requires : tie.Need-is-present-requires Inv-loop μ-loop
-is-present-requires c κs = search needs
-
-mul-result : tie.Need-mul-result Inv-loop μ-loop
-mul-result c = search needs
-
-sub-result : tie.Need-sub-result Inv-loop μ-loop
-sub-result c = search needs
-
-part-result-start : tie.Need-part-result-start Inv-loop μ-loop
-part-result-start c = search needs
-
-part-result-end : tie.Need-part-result-end Inv-loop μ-loop
-part-result-end c = search needs
-
 returns : tie.Need-returns Inv-loop μ-loop
 returns c =
     let a = c .before .before .before .before .before .before .before .before .args in
     let p = present (split (a .e) (a .s .now)) in
     rest (a .places .now) (c .before .before .before .before .before .loop .i + 1) ∙ sym (c .before .before .before .before .before .loop .inv .1 ∙ after-here _ _ _ (c .before .before .before .before .loop-test .taken) (ap p (sym (c .before .before .before .place-at .ensures)) ∙ sym (c .before .before .is-present .ensures) ∙ c .before .if1 .taken))
 
-loop-less : tie.Need-loop-less Inv-loop μ-loop
-loop-less c = search needs
-
 loop-again : tie.Need-loop-again Inv-loop μ-loop
 loop-again c =
     let a = c .before .before .before .before .before .before .before .args in
     let p = present (split (a .e) (a .s .now)) in
     (omega arith, c .before .before .before .before .loop .inv .1 ∙ after-later _ _ _ (c .before .before .before .loop-test .taken) (ap p (sym (c .before .before .place-at .ensures)) ∙ sym (c .before .is-present .ensures) ∙ c .if1 .left))
-
-mul-result-2 : tie.Need-mul-result-2 Inv-loop μ-loop
-mul-result-2 c = search needs
-
-sub-result-2 : tie.Need-sub-result-2 Inv-loop μ-loop
-sub-result-2 c = search needs
-
-part-result-start-2 : tie.Need-part-result-start-2 Inv-loop μ-loop
-part-result-start-2 c = search needs
-
-part-result-end-2 : tie.Need-part-result-end-2 Inv-loop μ-loop
-part-result-end-2 c = search needs
 
 returns-2 : tie.Need-returns-2 Inv-loop μ-loop
 returns-2 c = rest (c .before .before .before .before .before .args .places .now) (c .before .before .loop .i) ∙ sym (c .before .before .loop .inv .1 ∙ after-none _ _ _ (c .before .loop-test .left))
@@ -77,19 +38,19 @@ after-present-spec =
     (tie.spec
     Inv-loop
     μ-loop
-    loop-holds
-    place-at-requires
-    add-i
-    is-present-requires
-    mul-result
-    sub-result
-    part-result-start
-    part-result-end
+    (λ c. search needs)
+    (λ c κs. search needs)
+    (λ c. search needs)
+    (λ c κs. search needs)
+    (λ c. search needs)
+    (λ c. search needs)
+    (λ c. search needs)
+    (λ c. search needs)
     returns
-    loop-less
+    (λ c. search needs)
     loop-again
-    mul-result-2
-    sub-result-2
-    part-result-start-2
-    part-result-end-2
+    (λ c. search needs)
+    (λ c. search needs)
+    (λ c. search needs)
+    (λ c. search needs)
     returns-2)

@@ -17,26 +17,11 @@ Inv-loop s e places i₀ i = any (present (split e s)) places ≡ any (present (
 abbrev μ-loop : tie.MeasureT-loop
 μ-loop s e places i₀ i = length places - i
 
-loop-holds : tie.Need-loop-holds Inv-loop μ-loop
-loop-holds c = search needs
-
-place-at-requires : tie.Need-place-at-requires Inv-loop μ-loop
-place-at-requires c κs = search needs
-
-is-present-requires : tie.Need-is-present-requires Inv-loop μ-loop
-is-present-requires c κs = search needs
-
 returns : tie.Need-returns Inv-loop μ-loop
 returns c =
     let a = c .before .before .before .before .before .before .before .args in
     let p = present (split (a .e) (a .s .now)) in
     sym (c .before .before .before .before .loop .inv ∙ any-step p _ 0 _ true (c .before .before .before .loop-test .taken) (ap p (sym (c .before .before .place-at .ensures)) ∙ sym (c .before .is-present .ensures) ∙ c .if1 .taken))
-
-add-i : tie.Need-add-i Inv-loop μ-loop
-add-i c = search needs
-
-loop-less : tie.Need-loop-less Inv-loop μ-loop
-loop-less c = search needs
 
 loop-again : tie.Need-loop-again Inv-loop μ-loop
 loop-again c =
@@ -53,11 +38,11 @@ any-present-spec =
     (tie.spec
     Inv-loop
     μ-loop
-    loop-holds
-    place-at-requires
-    is-present-requires
+    (λ c. search needs)
+    (λ c κs. search needs)
+    (λ c κs. search needs)
     returns
-    add-i
-    loop-less
+    (λ c. search needs)
+    (λ c. search needs)
     loop-again
     returns-2)

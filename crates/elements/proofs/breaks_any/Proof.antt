@@ -8,15 +8,6 @@ use borrow.Author.Needs.{needs}
 use Rattle.elements.proofs.breaks_any.Statement.{statement}
 use Rattle.elements.proofs.breaks_any.Tie as tie
 
-concerns-any-requires : tie.Need-concerns-any-requires
-concerns-any-requires c κs = search needs
-
-breaks-notes-requires : tie.Need-breaks-notes-requires
-breaks-notes-requires c κs = search needs
-
-returns : tie.Need-returns
-returns c = search needs
-
 returns-2 : tie.Need-returns-2
 returns-2 c =
     let a = c .before .before .before .args in
@@ -25,4 +16,4 @@ returns-2 c =
 
 pub breaks-any-spec : {M : Type 1} → statement M
 breaks-any-spec =
-    tie.close (tie.spec concerns-any-requires breaks-notes-requires returns returns-2)
+    tie.close (tie.spec (λ c κs. search needs) (λ c κs. search needs) (λ c. search needs) returns-2)

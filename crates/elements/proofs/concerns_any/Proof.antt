@@ -17,32 +17,17 @@ Inv-loop guide from present k₀ k = any (concerns present) (syntaxIn (drop from
 abbrev μ-loop : tie.MeasureT-loop
 μ-loop guide from present k₀ k = length guide - k
 
-loop-holds : tie.Need-loop-holds Inv-loop μ-loop
-loop-holds c = search needs
-
-is-segment-requires : tie.Need-is-segment-requires Inv-loop μ-loop
-is-segment-requires c κs = search needs
-
 returns : tie.Need-returns Inv-loop μ-loop
 returns c =
     let l = c .before .before .before in
     let a = l .before .args in
     sym (l .loop .inv ∙ notes-over _ (a .guide .now) (l .loop .k) (sym (c .before .is-segment .ensures) ∙ c .if1 .taken))
 
-concerns-requires : tie.Need-concerns-requires Inv-loop μ-loop
-concerns-requires c κs = search needs
-
 returns-2 : tie.Need-returns-2 Inv-loop μ-loop
 returns-2 c =
     let l = c .before .before .before .before .before in
     let a = l .before .args in
     sym (l .loop .inv ∙ notes-step _ (a .guide .now) (l .loop .k) true (sym (c .before .before .before .is-segment .ensures) ∙ c .before .before .if1 .left) (sym (c .if2 .taken) ∙ c .before .concerns .ensures))
-
-add-k : tie.Need-add-k Inv-loop μ-loop
-add-k c = search needs
-
-loop-less : tie.Need-loop-less Inv-loop μ-loop
-loop-less c = search needs
 
 loop-again : tie.Need-loop-again Inv-loop μ-loop
 loop-again c =
@@ -59,12 +44,12 @@ concerns-any-spec =
     (tie.spec
     Inv-loop
     μ-loop
-    loop-holds
-    is-segment-requires
+    (λ c. search needs)
+    (λ c κs. search needs)
     returns
-    concerns-requires
+    (λ c κs. search needs)
     returns-2
-    add-k
-    loop-less
+    (λ c. search needs)
+    (λ c. search needs)
     loop-again
     returns-3)

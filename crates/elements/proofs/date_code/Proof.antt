@@ -5,9 +5,6 @@ use borrow.Author.Needs.{needs}
 use Rattle.elements.proofs.date_code.Statement.{statement}
 use Rattle.elements.proofs.date_code.Tie as tie
 
-is-date-requires : tie.Need-is-date-requires
-is-date-requires c κs = search needs
-
 returns : tie.Need-returns
 unfolding first
 returns c = rw (sym (c .before .is-date .ensures) ∙ c .if1 .taken)
@@ -17,4 +14,4 @@ unfolding first
 returns-2 c = rw (sym (c .before .is-date .ensures) ∙ c .if1 .left)
 
 pub date-code-spec : {M : Type 1} → statement M
-date-code-spec = tie.close (tie.spec is-date-requires returns returns-2)
+date-code-spec = tie.close (tie.spec (λ c κs. search needs) returns returns-2)

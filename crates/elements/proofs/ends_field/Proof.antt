@@ -5,9 +5,6 @@ use borrow.Author.Needs.{needs}
 use Rattle.elements.proofs.ends_field.Statement.{statement}
 use Rattle.elements.proofs.ends_field.Tie as tie
 
-shared-slice-read-result : tie.Need-shared-slice-read-result
-shared-slice-read-result c = search needs
-
 returns : tie.Need-returns
 unfolding endsField
 returns c = rw (lt-ltb _ _ (c .before .if1 .taken))
@@ -17,4 +14,4 @@ unfolding endsField
 returns-2 c = rw (le-ltb _ _ (c .if1 .left))
 
 pub ends-field-spec : {M : Type 1} → statement M
-ends-field-spec = tie.close (tie.spec shared-slice-read-result returns returns-2)
+ends-field-spec = tie.close (tie.spec (λ c. search needs) returns returns-2)

@@ -14,26 +14,11 @@ Inv-loop guide from k₀ k = syntaxIn (drop k guide) ≡ syntaxIn (drop from gui
 abbrev μ-loop : tie.MeasureT-loop
 μ-loop guide from k₀ k = length guide - k
 
-loop-holds : tie.Need-loop-holds Inv-loop μ-loop
-loop-holds c = search needs
-
-is-note-requires : tie.Need-is-note-requires Inv-loop μ-loop
-is-note-requires c κs = search needs
-
 returns : tie.Need-returns Inv-loop μ-loop
 returns c = c .before .before .before .loop .inv
 
-is-segment-requires : tie.Need-is-segment-requires Inv-loop μ-loop
-is-segment-requires c κs = search needs
-
 returns-2 : tie.Need-returns-2 Inv-loop μ-loop
 returns-2 c = c .before .before .before .before .before .loop .inv
-
-add-k : tie.Need-add-k Inv-loop μ-loop
-add-k c = search needs
-
-loop-less : tie.Need-loop-less Inv-loop μ-loop
-loop-less c = search needs
 
 loop-again : tie.Need-loop-again Inv-loop μ-loop
 loop-again c = sym (notes-skip (c .before .before .before .before .before .before .args .guide .now) (c .before .before .before .before .before .loop .k) (sym (c .before .is-segment .ensures) ∙ c .if2 .left) (sym (c .before .before .before .is-note .ensures) ∙ c .before .before .if1 .left)) ∙ c .before .before .before .before .before .loop .inv
@@ -47,12 +32,12 @@ first-note-spec =
     (tie.spec
     Inv-loop
     μ-loop
-    loop-holds
-    is-note-requires
+    (λ c. search needs)
+    (λ c κs. search needs)
     returns
-    is-segment-requires
+    (λ c κs. search needs)
     returns-2
-    add-k
-    loop-less
+    (λ c. search needs)
+    (λ c. search needs)
     loop-again
     returns-3)

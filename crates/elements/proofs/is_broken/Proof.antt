@@ -5,36 +5,6 @@ use borrow.Author.Needs.{needs}
 use Rattle.elements.proofs.is_broken.Statement.{statement}
 use Rattle.elements.proofs.is_broken.Tie as tie
 
-enum-told : tie.Need-enum-told
-enum-told c = search needs
-
-lacks-pair-requires : tie.Need-lacks-pair-requires
-lacks-pair-requires c κs = search needs
-
-enum-told-2 : tie.Need-enum-told-2
-enum-told-2 c = search needs
-
-lacks-one-requires : tie.Need-lacks-one-requires
-lacks-one-requires c κs = search needs
-
-enum-told-3 : tie.Need-enum-told-3
-enum-told-3 c = search needs
-
-is-second-requires : tie.Need-is-second-requires
-is-second-requires c κs = search needs
-
-enum-told-4 : tie.Need-enum-told-4
-enum-told-4 c = search needs
-
-lacks-other-requires : tie.Need-lacks-other-requires
-lacks-other-requires c κs = search needs
-
-enum-told-5 : tie.Need-enum-told-5
-enum-told-5 c = search needs
-
-lacks-any-other-requires : tie.Need-lacks-any-other-requires
-lacks-any-other-requires c κs = search needs
-
 returns : tie.Need-returns
 returns c = rw (c .before .enum-told .given .1) (c .lacks-pair .ensures ∙ sym (or-false _))
 
@@ -54,16 +24,16 @@ pub is-broken-spec : {M : Type 1} → statement M
 is-broken-spec =
     tie.close
     (tie.spec
-    enum-told
-    lacks-pair-requires
-    enum-told-2
-    lacks-one-requires
-    enum-told-3
-    is-second-requires
-    enum-told-4
-    lacks-other-requires
-    enum-told-5
-    lacks-any-other-requires
+    (λ c. search needs)
+    (λ c κs. search needs)
+    (λ c. search needs)
+    (λ c κs. search needs)
+    (λ c. search needs)
+    (λ c κs. search needs)
+    (λ c. search needs)
+    (λ c κs. search needs)
+    (λ c. search needs)
+    (λ c κs. search needs)
     returns
     returns-2
     returns-3

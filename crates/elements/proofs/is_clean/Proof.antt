@@ -78,15 +78,6 @@ notes-said c =
     c .breaks-any .ensures
     ∙ ap (any (breaks (split (a .d .element) (a .s .now)) (c .before .before .before .before .before .before .before .before .before .before .before .before .before .loop .n))) (c .before .before .before .before .before .before .before .before .before .before .before .before .before .before .before .first-note .ensures ∙ ap syntaxIn (below-rest (a .guide .now) (a .entry) (c .before .before .before .before .before .before .before .before .before .before .before .before .before .before .before .before .below .ensures)))
 
-below-requires : tie.Need-below-requires Inv-loop μ-loop
-below-requires c κs = search needs
-
-first-note-requires : tie.Need-first-note-requires Inv-loop μ-loop
-first-note-requires c κs = search needs
-
-find-near-requires : tie.Need-find-near-requires Inv-loop μ-loop
-find-near-requires c κs = search needs
-
 loop-holds : tie.Need-loop-holds Inv-loop μ-loop
 unfolding findings
 loop-holds c =
@@ -94,38 +85,17 @@ loop-holds c =
     let s = split (a .d .element) (a .s .now) in
     (field-next field-first (c .find-near .ensures), omega (arith, c .find-near .ensures, find-le (a .d .element) (a .s .now) 0 (omega arith)), omega arith, ap (λ (l : List (List ℕ)). null (findingsFrom (a .d) (entryAt (a .guide .now) (a .entry) .notes) s 1 (rowsIn l))) (sym (below-rest (a .guide .now) (a .entry) (c .before .before .below .ensures))))
 
-is-segment-requires : tie.Need-is-segment-requires Inv-loop μ-loop
-is-segment-requires c κs = search needs
-
 returns : tie.Need-returns Inv-loop μ-loop
 returns c =
     let a = c .before .before .before .before .before .before .before .before .args in
     let l = c .before .before .before .loop in
     sym (l .inv .3 ∙ clean-end (a .d) (entryAt (a .guide .now) (a .entry) .notes) (a .d .element) (a .s .now) (l .n) (l .end) (l .inv .0) _ (rows-stop (a .guide .now) (l .k) (sym (c .before .is-segment .ensures) ∙ c .if1 .taken)))
 
-is-element-requires : tie.Need-is-element-requires Inv-loop μ-loop
-is-element-requires c κs = search needs
-
-add-k : tie.Need-add-k Inv-loop μ-loop
-add-k c = search needs
-
-loop-less : tie.Need-loop-less Inv-loop μ-loop
-loop-less c = search needs
-
 loop-again : tie.Need-loop-again Inv-loop μ-loop
 loop-again c =
     let a = c .before .before .before .before .before .before .before .before .before .before .args in
     let l = c .before .before .before .before .before .loop in
     (l .inv .0, l .inv .1, omega arith, l .inv .3 ∙ clean-skip (a .d) (entryAt (a .guide .now) (a .entry) .notes) (split (a .d .element) (a .s .now)) (a .guide .now) (l .k) (l .n) (sym (c .before .before .before .is-segment .ensures) ∙ c .before .before .if1 .left) (sym (c .before .is-element .ensures) ∙ not-true _ (c .if2 .taken)))
-
-next-start-requires : tie.Need-next-start-requires Inv-loop μ-loop
-next-start-requires c κs = search needs
-
-find-invalid-requires : tie.Need-find-invalid-requires Inv-loop μ-loop
-find-invalid-requires c κs = search needs
-
-ends-field-requires : tie.Need-ends-field-requires Inv-loop μ-loop
-ends-field-requires c κs = search needs
 
 returns-2 : tie.Need-returns-2 Inv-loop μ-loop
 returns-2 c =
@@ -142,9 +112,6 @@ part-field-start c = next-after (valid-to (c .before .before))
 part-field-end : tie.Need-part-field-end Inv-loop μ-loop
 part-field-end c = ends-within (valid-to (c .before .before))
 
-takes-requires : tie.Need-takes-requires Inv-loop μ-loop
-takes-requires c κs = search needs
-
 returns-3 : tie.Need-returns-3 Inv-loop μ-loop
 returns-3 c = sym (row-left (c .before .before .before .before .before) _ _ (taken-said (c .before)) refl ∙ rw (not-true (c .before .takes .result) (c .if4 .taken)))
 
@@ -154,15 +121,6 @@ breaks-any-requires c κs = sym (next-present (valid-to (c .before .before .befo
 returns-4 : tie.Need-returns-4 Inv-loop μ-loop
 returns-4 c =
     sym (row-left (c .before .before .before .before .before .before .before) _ _ (taken-said (c .before .before .before)) (notes-said (c .before)) ∙ rw (not-false (c .before .before .before .takes .result) (c .before .before .if4 .left), c .if5 .taken))
-
-add-n : tie.Need-add-n Inv-loop μ-loop
-add-n c = search needs
-
-add-k-2 : tie.Need-add-k-2 Inv-loop μ-loop
-add-k-2 c = search needs
-
-loop-less-2 : tie.Need-loop-less-2 Inv-loop μ-loop
-loop-less-2 c = search needs
 
 loop-again-2 : tie.Need-loop-again-2 Inv-loop μ-loop
 loop-again-2 c =
@@ -181,29 +139,29 @@ is-clean-spec =
     (tie.spec
     Inv-loop
     μ-loop
-    below-requires
-    first-note-requires
-    find-near-requires
+    (λ c κs. search needs)
+    (λ c κs. search needs)
+    (λ c κs. search needs)
     loop-holds
-    is-segment-requires
+    (λ c κs. search needs)
     returns
-    is-element-requires
-    add-k
-    loop-less
+    (λ c κs. search needs)
+    (λ c. search needs)
+    (λ c. search needs)
     loop-again
-    next-start-requires
-    find-invalid-requires
-    ends-field-requires
+    (λ c κs. search needs)
+    (λ c κs. search needs)
+    (λ c κs. search needs)
     returns-2
     sub-field
     part-field-start
     part-field-end
-    takes-requires
+    (λ c κs. search needs)
     returns-3
     breaks-any-requires
     returns-4
-    add-n
-    add-k-2
-    loop-less-2
+    (λ c. search needs)
+    (λ c. search needs)
+    (λ c. search needs)
     loop-again-2
     returns-5)

@@ -17,20 +17,8 @@ Inv-loop n places i₀ i = any (eqb n) places ≡ any (eqb n) (drop i places)
 abbrev μ-loop : tie.MeasureT-loop
 μ-loop n places i₀ i = length places - i
 
-loop-holds : tie.Need-loop-holds Inv-loop μ-loop
-loop-holds c = search needs
-
-place-at-requires : tie.Need-place-at-requires Inv-loop μ-loop
-place-at-requires c κs = search needs
-
 returns : tie.Need-returns Inv-loop μ-loop
 returns c = sym (c .before .before .before .loop .inv ∙ any-step _ _ 0 _ true (c .before .before .loop-test .taken) (eq-eqb _ _ (c .if1 .taken ∙ c .before .place-at .ensures)))
-
-add-i : tie.Need-add-i Inv-loop μ-loop
-add-i c = search needs
-
-loop-less : tie.Need-loop-less Inv-loop μ-loop
-loop-less c = search needs
 
 loop-again : tie.Need-loop-again Inv-loop μ-loop
 loop-again c = c .before .before .before .loop .inv ∙ any-step _ _ 0 _ false (c .before .before .loop-test .taken) (ne-eqb _ _ (λ q. c .if1 .left (q ∙ sym (c .before .place-at .ensures))))
@@ -44,10 +32,10 @@ is-place-spec =
     (tie.spec
     Inv-loop
     μ-loop
-    loop-holds
-    place-at-requires
+    (λ c. search needs)
+    (λ c κs. search needs)
     returns
-    add-i
-    loop-less
+    (λ c. search needs)
+    (λ c. search needs)
     loop-again
     returns-2)

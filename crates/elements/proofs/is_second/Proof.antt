@@ -7,19 +7,10 @@ use borrow.Author.Needs.{needs}
 use Rattle.elements.proofs.is_second.Statement.{statement}
 use Rattle.elements.proofs.is_second.Tie as tie
 
-is-present-requires : tie.Need-is-present-requires
-is-present-requires c κs = search needs
-
 returns : tie.Need-returns
 returns c =
     let a = c .before .before .before .before .args in
     sym (second (split (a .e) (a .s .now)) (a .n) (a .places .now) ∙ rw (sym (c .before .is-present .ensures) ∙ not-true _ (c .if1 .taken)))
-
-after-present-requires : tie.Need-after-present-requires
-after-present-requires c κs = search needs
-
-is-place-requires : tie.Need-is-place-requires
-is-place-requires c κs = search needs
 
 returns-2 : tie.Need-returns-2
 returns-2 c =
@@ -29,4 +20,4 @@ returns-2 c =
 pub is-second-spec : {M : Type 1} → statement M
 is-second-spec =
     tie.close
-    (tie.spec is-present-requires returns after-present-requires is-place-requires returns-2)
+    (tie.spec (λ c κs. search needs) returns (λ c κs. search needs) (λ c κs. search needs) returns-2)

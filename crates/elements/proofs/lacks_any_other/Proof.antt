@@ -12,36 +12,15 @@ returns c =
     let a = c .before .before .before .args in
     sym (any-other-few (split (a .e) (a .s .now)) (a .n) (a .places .now) (c .if1 .taken))
 
-place-at-requires : tie.Need-place-at-requires
-place-at-requires c κs = search needs
-
 returns-2 : tie.Need-returns-2
 returns-2 c =
     let a = c .before .before .before .before .before .args in
     sym (any-other-some (split (a .e) (a .s .now)) (a .n) (a .places .now) (c .before .before .if1 .left) ∙ rw (← c .before .place-at .ensures, ne-eqb _ _ (c .if2 .taken)))
 
-sub-any-present : tie.Need-sub-any-present
-sub-any-present c = search needs
-
-part-any-present-start : tie.Need-part-any-present-start
-part-any-present-start c = search needs
-
-part-any-present-end : tie.Need-part-any-present-end
-part-any-present-end c = search needs
-
-any-present-requires : tie.Need-any-present-requires
-any-present-requires c κs = search needs
-
 returns-3 : tie.Need-returns-3
 returns-3 c =
     let a = c .before .before .before .before .before .before .before .before .args in
     sym (any-other-some (split (a .e) (a .s .now)) (a .n) (a .places .now) (c .before .before .before .before .before .if1 .left) ∙ rw (← c .before .before .before .before .place-at .ensures, eq-eqb _ _ (c .before .before .before .if2 .left), sym (c .before .any-present .ensures) ∙ c .if3 .taken))
-
-place-at-requires-2 : tie.Need-place-at-requires-2
-place-at-requires-2 c κs = search needs
-
-is-present-requires : tie.Need-is-present-requires
-is-present-requires c κs = search needs
 
 returns-4 : tie.Need-returns-4
 returns-4 c =
@@ -53,13 +32,13 @@ lacks-any-other-spec =
     tie.close
     (tie.spec
     returns
-    place-at-requires
+    (λ c κs. search needs)
     returns-2
-    sub-any-present
-    part-any-present-start
-    part-any-present-end
-    any-present-requires
+    (λ c. search needs)
+    (λ c. search needs)
+    (λ c. search needs)
+    (λ c κs. search needs)
     returns-3
-    place-at-requires-2
-    is-present-requires
+    (λ c κs. search needs)
+    (λ c κs. search needs)
     returns-4)

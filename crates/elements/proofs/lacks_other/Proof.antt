@@ -12,36 +12,15 @@ returns c =
     let a = c .before .before .before .args in
     sym (other-none (split (a .e) (a .s .now)) (a .n) (a .places .now) (c .if1 .taken))
 
-sub-is-place : tie.Need-sub-is-place
-sub-is-place c = search needs
-
-part-is-place-start : tie.Need-part-is-place-start
-part-is-place-start c = search needs
-
-part-is-place-end : tie.Need-part-is-place-end
-part-is-place-end c = search needs
-
-is-place-requires : tie.Need-is-place-requires
-is-place-requires c κs = search needs
-
 returns-2 : tie.Need-returns-2
 returns-2 c =
     let a = c .before .before .before .before .before .before .args in
     sym (other-some (split (a .e) (a .s .now)) (a .n) (a .places .now) (c .before .before .before .if1 .left) ∙ rw (sym (c .before .is-place .ensures) ∙ not-true _ (c .if2 .taken)))
 
-is-present-requires : tie.Need-is-present-requires
-is-present-requires c κs = search needs
-
 returns-3 : tie.Need-returns-3
 returns-3 c =
     let a = c .before .before .before .before .before .before .before .before .args in
     sym (other-some (split (a .e) (a .s .now)) (a .n) (a .places .now) (c .before .before .before .before .before .if1 .left) ∙ rw (sym (c .before .before .before .is-place .ensures) ∙ not-false _ (c .before .before .if2 .left), sym (c .before .is-present .ensures) ∙ c .if3 .taken))
-
-place-at-requires : tie.Need-place-at-requires
-place-at-requires c κs = search needs
-
-is-present-requires-2 : tie.Need-is-present-requires-2
-is-present-requires-2 c κs = search needs
 
 returns-4 : tie.Need-returns-4
 returns-4 c =
@@ -53,13 +32,13 @@ lacks-other-spec =
     tie.close
     (tie.spec
     returns
-    sub-is-place
-    part-is-place-start
-    part-is-place-end
-    is-place-requires
+    (λ c. search needs)
+    (λ c. search needs)
+    (λ c. search needs)
+    (λ c κs. search needs)
     returns-2
-    is-present-requires
+    (λ c κs. search needs)
     returns-3
-    place-at-requires
-    is-present-requires-2
+    (λ c κs. search needs)
+    (λ c κs. search needs)
     returns-4)

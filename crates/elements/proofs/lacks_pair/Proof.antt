@@ -7,24 +7,15 @@ use borrow.Author.Needs.{needs}
 use Rattle.elements.proofs.lacks_pair.Statement.{statement}
 use Rattle.elements.proofs.lacks_pair.Tie as tie
 
-is-place-requires : tie.Need-is-place-requires
-is-place-requires c κs = search needs
-
 returns : tie.Need-returns
 returns c =
     let a = c .before .before .before .before .args in
     sym (pair (split (a .e) (a .s .now)) (a .n) (a .places .now) ∙ rw (sym (c .before .is-place .ensures) ∙ not-true _ (c .if1 .taken)))
 
-is-present-requires : tie.Need-is-present-requires
-is-present-requires c κs = search needs
-
 returns-2 : tie.Need-returns-2
 returns-2 c =
     let a = c .before .before .before .before .before .before .args in
     sym (pair (split (a .e) (a .s .now)) (a .n) (a .places .now) ∙ rw (sym (c .before .before .before .is-place .ensures) ∙ not-false _ (c .before .before .if1 .left), sym (c .before .is-present .ensures) ∙ c .if2 .taken))
-
-any-present-requires : tie.Need-any-present-requires
-any-present-requires c κs = search needs
 
 returns-3 : tie.Need-returns-3
 returns-3 c =
@@ -35,9 +26,9 @@ pub lacks-pair-spec : {M : Type 1} → statement M
 lacks-pair-spec =
     tie.close
     (tie.spec
-    is-place-requires
+    (λ c κs. search needs)
     returns
-    is-present-requires
+    (λ c κs. search needs)
     returns-2
-    any-present-requires
+    (λ c κs. search needs)
     returns-3)

@@ -42,21 +42,6 @@ coded c =
     _ (c .before .breaks-notes .ensures ∙ ap (λ (l : List (List ℕ)). any (breaks s (a .n)) (syntaxIn l)) (below-rest (a .guide .now) (a .entry) (c .before .before .below .ensures)))
     (a .told)
 
-field-requires : tie.Need-field-requires
-field-requires c κs = search needs
-
-below-requires : tie.Need-below-requires
-below-requires c κs = search needs
-
-breaks-notes-requires : tie.Need-breaks-notes-requires
-breaks-notes-requires c κs = search needs
-
-element-code-requires : tie.Need-element-code-requires
-element-code-requires c κs = search needs
-
-note-code-requires : tie.Need-note-code-requires
-note-code-requires c κs = search needs
-
 returns : tie.Need-returns
 returns c = sym (coded (c .before .before) ∙ rw (c .before .if1 .taken, c .note-code .ensures))
 
@@ -67,10 +52,10 @@ pub next-code-spec : {M : Type 1} → statement M
 next-code-spec =
     tie.close
     (tie.spec
-    field-requires
-    below-requires
-    breaks-notes-requires
-    element-code-requires
-    note-code-requires
+    (λ c κs. search needs)
+    (λ c κs. search needs)
+    (λ c κs. search needs)
+    (λ c κs. search needs)
+    (λ c κs. search needs)
     returns
     returns-2)

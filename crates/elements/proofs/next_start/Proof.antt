@@ -5,9 +5,6 @@ use borrow.Author.Needs.{needs}
 use Rattle.elements.proofs.next_start.Statement.{statement}
 use Rattle.elements.proofs.next_start.Tie as tie
 
-add-result : tie.Need-add-result
-add-result c = search needs
-
 returns : tie.Need-returns
 unfolding nextStart
 returns c = rw (lt-ltb _ _ (c .if1 .taken))
@@ -17,4 +14,4 @@ unfolding nextStart
 returns-2 c = rw (le-ltb _ _ (c .if1 .left))
 
 pub next-start-spec : {M : Type 1} → statement M
-next-start-spec = tie.close (tie.spec add-result returns returns-2)
+next-start-spec = tie.close (tie.spec (λ c. search needs) returns returns-2)

@@ -8,27 +8,6 @@ use borrow.Author.Needs.{needs}
 use Rattle.elements.proofs.rule_code.Statement.{statement}
 use Rattle.elements.proofs.rule_code.Tie as tie
 
-enum-told : tie.Need-enum-told
-enum-told c = search needs
-
-enum-told-2 : tie.Need-enum-told-2
-enum-told-2 c = search needs
-
-enum-told-3 : tie.Need-enum-told-3
-enum-told-3 c = search needs
-
-enum-told-4 : tie.Need-enum-told-4
-enum-told-4 c = search needs
-
-date-code-requires : tie.Need-date-code-requires
-date-code-requires c κs = search needs
-
-enum-told-5 : tie.Need-enum-told-5
-enum-told-5 c = search needs
-
-time-code-requires : tie.Need-time-code-requires
-time-code-requires c κs = search needs
-
 returns : tie.Need-returns
 unfolding first
 returns c = sym (ap (λ (k : Kind). ruleCode k (c .before .before .before .args .e .now)) (c .enum-told .given .1))
@@ -55,13 +34,13 @@ pub rule-code-spec : {M : Type 1} → statement M
 rule-code-spec =
     tie.close
     (tie.spec
-    enum-told
-    enum-told-2
-    enum-told-3
-    enum-told-4
-    date-code-requires
-    enum-told-5
-    time-code-requires
+    (λ c. search needs)
+    (λ c. search needs)
+    (λ c. search needs)
+    (λ c. search needs)
+    (λ c κs. search needs)
+    (λ c. search needs)
+    (λ c κs. search needs)
     returns
     returns-2
     returns-3

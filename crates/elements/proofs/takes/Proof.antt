@@ -8,20 +8,11 @@ use borrow.Author.Needs.{needs}
 use Rattle.elements.proofs.takes.Statement.{statement}
 use Rattle.elements.proofs.takes.Tie as tie
 
-empty-code-requires : tie.Need-empty-code-requires
-empty-code-requires c κs = search needs
-
 returns : tie.Need-returns
 returns c =
     let a = c .before .before .before .args in
     let r = rowAt (a .guide .now) (a .k) in
     ap (λ (n : ℕ). eqb n 0) (c .empty-code .ensures) ∙ mandatory-code (r .mandatory) ∙ sym (takes-empty r (a .e .now) (c .before .if1 .taken))
-
-takes-length-requires : tie.Need-takes-length-requires
-takes-length-requires c κs = search needs
-
-value-code-requires : tie.Need-value-code-requires
-value-code-requires c κs = search needs
 
 returns-2 : tie.Need-returns-2
 returns-2 c =
@@ -40,9 +31,9 @@ pub takes-spec : {M : Type 1} → statement M
 takes-spec =
     tie.close
     (tie.spec
-    empty-code-requires
+    (λ c κs. search needs)
     returns
-    takes-length-requires
-    value-code-requires
+    (λ c κs. search needs)
+    (λ c κs. search needs)
     returns-2
     returns-3)

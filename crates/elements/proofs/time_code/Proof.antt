@@ -5,9 +5,6 @@ use borrow.Author.Needs.{needs}
 use Rattle.elements.proofs.time_code.Statement.{statement}
 use Rattle.elements.proofs.time_code.Tie as tie
 
-is-time-requires : tie.Need-is-time-requires
-is-time-requires c κs = search needs
-
 returns : tie.Need-returns
 unfolding first
 returns c = rw (sym (c .before .is-time .ensures) ∙ c .if1 .taken)
@@ -17,4 +14,4 @@ unfolding first
 returns-2 c = rw (sym (c .before .is-time .ensures) ∙ c .if1 .left)
 
 pub time-code-spec : {M : Type 1} → statement M
-time-code-spec = tie.close (tie.spec is-time-requires returns returns-2)
+time-code-spec = tie.close (tie.spec (λ c κs. search needs) returns returns-2)

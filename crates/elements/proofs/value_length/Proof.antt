@@ -4,12 +4,6 @@ use borrow.Author.Needs.{needs}
 use Rattle.elements.proofs.value_length.Statement.{statement}
 use Rattle.elements.proofs.value_length.Tie as tie
 
-is-number-requires : tie.Need-is-number-requires
-is-number-requires c κs = search needs
-
-unsigned-requires : tie.Need-unsigned-requires
-unsigned-requires c κs = search needs
-
 returns : tie.Need-returns
 returns c = rw (sym (c .before .before .is-number .ensures) ∙ c .before .if1 .taken, ← c .unsigned .ensures)
 
@@ -17,4 +11,4 @@ returns-2 : tie.Need-returns-2
 returns-2 c = rw (sym (c .before .is-number .ensures) ∙ c .if1 .left)
 
 pub value-length-spec : {M : Type 1} → statement M
-value-length-spec = tie.close (tie.spec is-number-requires unsigned-requires returns returns-2)
+value-length-spec = tie.close (tie.spec (λ c κs. search needs) (λ c κs. search needs) returns returns-2)

@@ -7,12 +7,6 @@ use borrow.Author.Needs.{needs}
 use Rattle.notes.proofs.add_code.Statement.{statement}
 use Rattle.notes.proofs.add_code.Tie as tie
 
-add-count-requires : tie.Need-add-count-requires
-add-count-requires c κs = search needs
-
-same-length : tie.Need-same-length
-same-length c = search needs
-
 returns : tie.Need-returns
 unfolding every
 returns c = rw (c .before .before .before .before .if1 .taken) (c .before .before .add-count .ensures)
@@ -22,4 +16,4 @@ unfolding every fieldsOut
 returns-2 c = rw (c .if1 .left) (none _ _ (omega arith) (omega arith))
 
 pub add-code-spec : {M : Type 1} → statement M
-add-code-spec = tie.close (tie.spec add-count-requires same-length returns returns-2)
+add-code-spec = tie.close (tie.spec (λ c κs. search needs) (λ c. search needs) returns returns-2)

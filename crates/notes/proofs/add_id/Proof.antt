@@ -6,23 +6,11 @@ use borrow.Author.Needs.{needs}
 use Rattle.notes.proofs.add_id.Statement.{statement}
 use Rattle.notes.proofs.add_id.Tie as tie
 
-slice-aggregate-find : tie.Need-slice-aggregate-find
-slice-aggregate-find c = search needs
-
-find-requires : tie.Need-find-requires
-find-requires c κs = search needs
-
 array-share-prefix-bytes : tie.Need-array-share-prefix-bytes
 array-share-prefix-bytes c = id-end (c .before .before .before .before .args .id) _ (c .before .find .ensures)
 
 slice-aggregate-add-field : tie.Need-slice-aggregate-add-field
 slice-aggregate-add-field c = sym (length-take-le _ (threeOf (c .before .before .before .before .before .args .id)) (id-end (c .before .before .before .before .before .args .id) _ (c .before .before .find .ensures)))
-
-add-field-requires : tie.Need-add-field-requires
-add-field-requires c κs = search needs
-
-same-length : tie.Need-same-length
-same-length c = search needs
 
 returns : tie.Need-returns
 returns c = rw (id-is (c .before .before .before .before .before .before .before .before .args .id) _ (c .before .before .before .before .before .find .ensures)) at (c .before .before .add-field .ensures)
@@ -31,10 +19,10 @@ pub add-id-spec : {M : Type 1} → statement M
 add-id-spec =
     tie.close
     (tie.spec
-    slice-aggregate-find
-    find-requires
+    (λ c. search needs)
+    (λ c κs. search needs)
     array-share-prefix-bytes
     slice-aggregate-add-field
-    add-field-requires
-    same-length
+    (λ c κs. search needs)
+    (λ c. search needs)
     returns)

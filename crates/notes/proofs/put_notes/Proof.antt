@@ -1,7 +1,7 @@
 -- `notes::put_notes` meets its contract: what each step tells is next of what is left.
 use borrow.Author.Needs.{needs}
 use mathlib.Core.Path.{_≡_, refl, sym, _∙_}
-use mathlib.Core.List.{List, [], _++_, map, map-append}
+use mathlib.Core.List.{List, _++_, map, map-append}
 use native.Mathlib.Omega.{arith}
 use lib.ListN.{length}
 use Rattle.findings.specs.Events.{Event, written}

@@ -12,21 +12,9 @@ use borrow.Author.Needs.{needs}
 use Rattle.tables.proofs.is_code.Statement.{statement}
 use Rattle.tables.proofs.is_code.Tie as tie
 
-sub-spells : tie.Need-sub-spells
-sub-spells c = search needs
-
-part-spells-start : tie.Need-part-spells-start
-part-spells-start c = search needs
-
-part-spells-end : tie.Need-part-spells-end
-part-spells-end c = search needs
-
-spells-requires : tie.Need-spells-requires
-spells-requires c κs = search needs
-
 returns : tie.Need-returns
 returns c = c .spells .ensures ∙ same-swap _ _ ∙ ap (λ (l : List ℕ). same (c .before .before .before .before .args .value .now) (filled l)) (take-all 5 (drop 1 (c .before .before .before .before .args .t1)) (omega (arith, length-drop 1 (c .before .before .before .before .args .t1), c .before .before .before .before .good .0 .1 .0 .1)))
 
 pub is-code-spec : {M : Type 1} → statement M
 is-code-spec =
-    tie.close (tie.spec sub-spells part-spells-start part-spells-end spells-requires returns)
+    tie.close (tie.spec (λ c. search needs) (λ c. search needs) (λ c. search needs) (λ c κs. search needs) returns)

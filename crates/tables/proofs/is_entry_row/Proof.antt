@@ -4,17 +4,11 @@ use borrow.Author.Needs.{needs}
 use Rattle.tables.proofs.is_entry_row.Statement.{statement}
 use Rattle.tables.proofs.is_entry_row.Tie as tie
 
-array-read-if1 : tie.Need-array-read-if1
-array-read-if1 c = search needs
-
 returns : tie.Need-returns
 returns c = rw (ne-eqb _ _ (c .if1 .taken))
-
-is-id-requires : tie.Need-is-id-requires
-is-id-requires c κs = search needs
 
 returns-2 : tie.Need-returns-2
 returns-2 c = rw (eq-eqb _ _ (c .before .if1 .left)) (c .is-id .ensures)
 
 pub is-entry-row-spec : {M : Type 1} → statement M
-is-entry-row-spec = tie.close (tie.spec array-read-if1 returns is-id-requires returns-2)
+is-entry-row-spec = tie.close (tie.spec (λ c. search needs) returns (λ c κs. search needs) returns-2)

@@ -16,26 +16,8 @@ Inv-loop id directory k₀ k = member id (idsIn directory) ≡ member id (idsIn 
 abbrev μ-loop : tie.MeasureT-loop
 μ-loop id directory k₀ k = length directory - k
 
-loop-holds : tie.Need-loop-holds Inv-loop μ-loop
-loop-holds c = search needs
-
-mul-is-named : tie.Need-mul-is-named Inv-loop μ-loop
-mul-is-named c = search needs
-
-shared-slice-copy-out-is-named : tie.Need-shared-slice-copy-out-is-named Inv-loop μ-loop
-shared-slice-copy-out-is-named c = search needs
-
-is-named-requires : tie.Need-is-named-requires Inv-loop μ-loop
-is-named-requires c κs = search needs
-
 returns : tie.Need-returns Inv-loop μ-loop
 returns c = sym (c .before .before .before .before .loop .inv ∙ known-step _ _ _ true (c .before .before .before .loop-test .taken) (sym (c .before .is-named .ensures) ∙ c .if1 .taken))
-
-add-k : tie.Need-add-k Inv-loop μ-loop
-add-k c = search needs
-
-loop-less : tie.Need-loop-less Inv-loop μ-loop
-loop-less c = search needs
 
 loop-again : tie.Need-loop-again Inv-loop μ-loop
 loop-again c = c .before .before .before .before .loop .inv ∙ known-step _ _ _ false (c .before .before .before .loop-test .taken) (sym (c .before .is-named .ensures) ∙ c .if1 .left)
@@ -49,12 +31,12 @@ is-known-spec =
     (tie.spec
     Inv-loop
     μ-loop
-    loop-holds
-    mul-is-named
-    shared-slice-copy-out-is-named
-    is-named-requires
+    (λ c. search needs)
+    (λ c. search needs)
+    (λ c. search needs)
+    (λ c κs. search needs)
     returns
-    add-k
-    loop-less
+    (λ c. search needs)
+    (λ c. search needs)
     loop-again
     returns-2)

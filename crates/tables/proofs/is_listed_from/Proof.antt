@@ -21,20 +21,11 @@ abbrev μ-loop : tie.MeasureT-loop
 within : (c : tie.Then1 Inv-loop μ-loop) → c .before .before .loop .k < length (c .before .before .before .before .args .guide .now)
 within c = row-within 3 (lit< tt) (c .before .before .before .before .args .guide .now) (c .before .before .loop .k) (sym (c .before .is-value .ensures) ∙ c .if1 .taken)
 
-loop-holds : tie.Need-loop-holds Inv-loop μ-loop
-loop-holds c = search needs
-
-is-value-requires : tie.Need-is-value-requires Inv-loop μ-loop
-is-value-requires c κs = search needs
-
 mul-is-code : tie.Need-mul-is-code Inv-loop μ-loop
 mul-is-code c = let h = within c in search needs
 
 shared-slice-copy-out-is-code : tie.Need-shared-slice-copy-out-is-code Inv-loop μ-loop
 shared-slice-copy-out-is-code c = within c
-
-is-code-requires : tie.Need-is-code-requires Inv-loop μ-loop
-is-code-requires c κs = search needs
 
 returns : tie.Need-returns Inv-loop μ-loop
 returns c = sym (c .before .before .before .before .before .loop .inv ∙ listed-step (c .before .before .before .before .before .before .before .args .guide .now) (c .before .before .before .before .before .loop .k) _ true (sym (c .before .before .before .before .is-value .ensures) ∙ c .before .before .before .if1 .taken) (sym (c .before .is-code .ensures) ∙ c .if2 .taken))
@@ -57,11 +48,11 @@ is-listed-from-spec =
     (tie.spec
     Inv-loop
     μ-loop
-    loop-holds
-    is-value-requires
+    (λ c. search needs)
+    (λ c κs. search needs)
     mul-is-code
     shared-slice-copy-out-is-code
-    is-code-requires
+    (λ c κs. search needs)
     returns
     add-k
     loop-less

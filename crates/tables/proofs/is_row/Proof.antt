@@ -6,11 +6,8 @@ use borrow.Author.Needs.{needs}
 use Rattle.tables.proofs.is_row.Statement.{statement}
 use Rattle.tables.proofs.is_row.Tie as tie
 
-number-requires : tie.Need-number-requires
-number-requires c κs = search needs
-
 returns : tie.Need-returns
 returns c = ap (λ (n : ℕ). eqb n (c .before .args .what)) (c .number .ensures)
 
 pub is-row-spec : {M : Type 1} → statement M
-is-row-spec = tie.close (tie.spec number-requires returns)
+is-row-spec = tie.close (tie.spec (λ c κs. search needs) returns)

@@ -16,27 +16,12 @@ Inv-loop guide from k₀ k = nextWhere isMandatoryRow guide from ≡ nextWhere i
 abbrev μ-loop : tie.MeasureT-loop
 μ-loop guide from k₀ k = length guide - k
 
-loop-holds : tie.Need-loop-holds Inv-loop μ-loop
-loop-holds c = search needs
-
-mul-is-mandatory-row : tie.Need-mul-is-mandatory-row Inv-loop μ-loop
-mul-is-mandatory-row c = search needs
-
 shared-slice-copy-out-is-mandatory-row :
     tie.Need-shared-slice-copy-out-is-mandatory-row Inv-loop μ-loop
 shared-slice-copy-out-is-mandatory-row c = search needs
 
-is-mandatory-row-requires : tie.Need-is-mandatory-row-requires Inv-loop μ-loop
-is-mandatory-row-requires c κs = search needs
-
 returns : tie.Need-returns Inv-loop μ-loop
 returns c = sym (c .before .before .before .before .loop .inv ∙ next-here _ _ [] _ (c .before .before .before .loop-test .taken) (sym (c .before .is-mandatory-row .ensures) ∙ c .if1 .taken))
-
-add-k : tie.Need-add-k Inv-loop μ-loop
-add-k c = search needs
-
-loop-less : tie.Need-loop-less Inv-loop μ-loop
-loop-less c = search needs
 
 loop-again : tie.Need-loop-again Inv-loop μ-loop
 loop-again c = c .before .before .before .before .loop .inv ∙ next-later _ _ [] _ (c .before .before .before .loop-test .taken) (sym (c .before .is-mandatory-row .ensures) ∙ c .if1 .left)
@@ -50,12 +35,12 @@ mandatory-from-spec =
     (tie.spec
     Inv-loop
     μ-loop
-    loop-holds
-    mul-is-mandatory-row
+    (λ c. search needs)
+    (λ c. search needs)
     shared-slice-copy-out-is-mandatory-row
-    is-mandatory-row-requires
+    (λ c κs. search needs)
     returns
-    add-k
-    loop-less
+    (λ c. search needs)
+    (λ c. search needs)
     loop-again
     returns-2)

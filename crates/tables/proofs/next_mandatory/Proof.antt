@@ -11,15 +11,9 @@ use Rattle.tables.proofs.next_mandatory.Tie as tie
 slice-aggregate-mandatory-from : tie.Need-slice-aggregate-mandatory-from
 slice-aggregate-mandatory-from c = sym (length-take-le _ _ (omega arith))
 
-mandatory-from-requires : tie.Need-mandatory-from-requires
-mandatory-from-requires c κs = search needs
-
 returns : tie.Need-returns
 unfolding nextMandatory
 returns c = c .mandatory-from .ensures
-
-mandatory-from-requires-2 : tie.Need-mandatory-from-requires-2
-mandatory-from-requires-2 c κs = search needs
 
 returns-2 : tie.Need-returns-2
 unfolding nextMandatory
@@ -30,7 +24,7 @@ next-mandatory-spec =
     tie.close
     (tie.spec
     slice-aggregate-mandatory-from
-    mandatory-from-requires
+    (λ c κs. search needs)
     returns
-    mandatory-from-requires-2
+    (λ c κs. search needs)
     returns-2)

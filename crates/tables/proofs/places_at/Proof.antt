@@ -1,5 +1,4 @@
 -- `tables::places_at` meets its contract.
-use mathlib.Core.Path.{_∙_}
 use borrow.Author.Needs.{needs}
 use Rattle.tables.proofs.places_at.Statement.{statement}
 use Rattle.tables.proofs.places_at.Tie as tie

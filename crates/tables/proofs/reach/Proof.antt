@@ -16,27 +16,9 @@ Inv-loop guide id k₀ k = nextWhere (isEntryRow id) guide 0 ≡ nextWhere (isEn
 abbrev μ-loop : tie.MeasureT-loop
 μ-loop guide id k₀ k = length guide - k
 
-loop-holds : tie.Need-loop-holds Inv-loop μ-loop
-loop-holds c = search needs
-
-mul-is-entry-row : tie.Need-mul-is-entry-row Inv-loop μ-loop
-mul-is-entry-row c = search needs
-
-shared-slice-copy-out-is-entry-row : tie.Need-shared-slice-copy-out-is-entry-row Inv-loop μ-loop
-shared-slice-copy-out-is-entry-row c = search needs
-
-is-entry-row-requires : tie.Need-is-entry-row-requires Inv-loop μ-loop
-is-entry-row-requires c κs = search needs
-
 returns : tie.Need-returns Inv-loop μ-loop
 unfolding entryRow
 returns c = sym (c .before .before .before .before .loop .inv ∙ next-here _ _ [] _ (c .before .before .before .loop-test .taken) (sym (c .before .is-entry-row .ensures) ∙ c .if1 .taken))
-
-add-k : tie.Need-add-k Inv-loop μ-loop
-add-k c = search needs
-
-loop-less : tie.Need-loop-less Inv-loop μ-loop
-loop-less c = search needs
 
 loop-again : tie.Need-loop-again Inv-loop μ-loop
 loop-again c = c .before .before .before .before .loop .inv ∙ next-later _ _ [] _ (c .before .before .before .loop-test .taken) (sym (c .before .is-entry-row .ensures) ∙ c .if1 .left)
@@ -51,12 +33,12 @@ reach-spec =
     (tie.spec
     Inv-loop
     μ-loop
-    loop-holds
-    mul-is-entry-row
-    shared-slice-copy-out-is-entry-row
-    is-entry-row-requires
+    (λ c. search needs)
+    (λ c. search needs)
+    (λ c. search needs)
+    (λ c κs. search needs)
     returns
-    add-k
-    loop-less
+    (λ c. search needs)
+    (λ c. search needs)
     loop-again
     returns-2)

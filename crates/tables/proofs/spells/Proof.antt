@@ -20,17 +20,8 @@ Inv-loop numbers bytes i₀ i = same (filled numbers) bytes ≡ same (filled (dr
 abbrev μ-loop : tie.MeasureT-loop
 μ-loop numbers bytes i₀ i = length bytes - i
 
-loop-holds : tie.Need-loop-holds Inv-loop μ-loop
-loop-holds c = search needs
-
-number-at-requires : tie.Need-number-at-requires Inv-loop μ-loop
-number-at-requires c κs = search needs
-
 returns : tie.Need-returns Inv-loop μ-loop
 returns c = sym (c .before .before .before .loop .inv ∙ spell-short _ _ _ (c .before .before .loop-test .taken) (sym (c .before .number-at .ensures) ∙ c .if1 .taken))
-
-shared-slice-read-if2 : tie.Need-shared-slice-read-if2 Inv-loop μ-loop
-shared-slice-read-if2 c = search needs
 
 cast-if2 : tie.Need-cast-if2 Inv-loop μ-loop
 cast-if2 c = omega (arith, c .shared-slice-known3 .given (c .before .before .before .before .loop .i))
@@ -38,17 +29,8 @@ cast-if2 c = omega (arith, c .shared-slice-known3 .given (c .before .before .bef
 returns-2 : tie.Need-returns-2 Inv-loop μ-loop
 returns-2 c = sym (c .before .before .before .before .before .loop .inv ∙ spell-step _ _ _ false (c .before .before .before .before .loop-test .taken) (λ e. c .before .before .if1 .left (c .before .before .before .number-at .ensures ∙ e)) (ne-eqb _ _ (λ e. c .if2 .taken (c .before .before .before .number-at .ensures ∙ e))))
 
-add-i : tie.Need-add-i Inv-loop μ-loop
-add-i c = search needs
-
-loop-less : tie.Need-loop-less Inv-loop μ-loop
-loop-less c = search needs
-
 loop-again : tie.Need-loop-again Inv-loop μ-loop
 loop-again c = c .before .before .before .before .before .loop .inv ∙ spell-step _ _ _ true (c .before .before .before .before .loop-test .taken) (λ e. c .before .before .if1 .left (c .before .before .before .number-at .ensures ∙ e)) (eq-eqb _ _ (sym (c .before .before .before .number-at .ensures) ∙ c .if2 .left))
-
-number-at-requires-2 : tie.Need-number-at-requires-2 Inv-loop μ-loop
-number-at-requires-2 c κs = search needs
 
 returns-3 : tie.Need-returns-3 Inv-loop μ-loop
 returns-3 c = ap (λ (n : ℕ). eqb n 0) (c .number-at2 .ensures) ∙ sym (c .before .before .loop .inv ∙ spell-end _ _ _ (c .before .loop-test .left))
@@ -59,14 +41,14 @@ spells-spec =
     (tie.spec
     Inv-loop
     μ-loop
-    loop-holds
-    number-at-requires
+    (λ c. search needs)
+    (λ c κs. search needs)
     returns
-    shared-slice-read-if2
+    (λ c. search needs)
     cast-if2
     returns-2
-    add-i
-    loop-less
+    (λ c. search needs)
+    (λ c. search needs)
     loop-again
-    number-at-requires-2
+    (λ c κs. search needs)
     returns-3)
