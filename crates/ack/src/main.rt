@@ -8,8 +8,8 @@ use libc::STDERR_FILENO;
 use libc::STDIN_FILENO;
 use libc::STDOUT_FILENO;
 
-// As much of an input as decides its answer.
-const MOST: usize = 65561;
+// As much of an input as decides its answer: the longest first line, its LF, and an interchange that is too long by one byte.
+const MOST: usize = 23 + 1 + 65537;
 
 // The room for a response.
 const ROOM: usize = 65536;

@@ -18,7 +18,7 @@ use Rattle.rules.specs.Program.{Input, behindByte, parted, isCall, refusedText,
 use Rattle.rules.specs.declared.Answer.the-variants.{Refused}
 use Rattle.rules.specs.declared.Call.{Call}
 use Rattle.exchange.specs.Deciding.{deciding}
-use Rattle.first_line.proofs.Laws.{call-line}
+use Rattle.exchange.proofs.FirstLine.{call-line}
 
 -- 1. The interchange.
 -- where the rule on the length applies, the caller's numbers decide which of the first two rules it is

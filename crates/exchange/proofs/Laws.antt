@@ -18,10 +18,10 @@ use Rattle.rules.proofs.Lengths.{decimal-short}
 use Rattle.writing.specs.Over.{over, Wrote}
 use Rattle.writing.proofs.Over.{over-fits}
 use Rattle.writing.proofs.Laws.{same, exact}
-use Rattle.first_line.specs.Calls.{lineIn}
-use Rattle.first_line.specs.declared.FirstLine.{FirstLine}
-use Rattle.first_line.specs.declared.FirstLine.the-variants.{Numbers, Bad}
-use Rattle.first_line.proofs.Laws.{printedBy, printed-by}
+use Rattle.exchange.specs.Calls.{lineIn}
+use Rattle.exchange.specs.declared.first_line.FirstLine.{FirstLine}
+use Rattle.exchange.specs.declared.first_line.FirstLine.the-variants.{Numbers, Bad}
+use Rattle.exchange.proofs.FirstLine.{printedBy, printed-by}
 
 -- the line of a refusal is short
 refused-short : (n : ℕ) → length (refusedText n) ≤ 29

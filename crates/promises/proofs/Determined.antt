@@ -105,8 +105,6 @@ use Rattle.blocks.proofs.add_ak5.Reads as blocks-add-ak5
 use Rattle.blocks.proofs.add_ak9.Reads as blocks-add-ak9
 use Rattle.blocks.proofs.add_se.Reads as blocks-add-se
 use Rattle.notes.proofs.put_notes.Reads as notes-put-notes
-use Rattle.first_line.proofs.call_of.Reads as first-line-call-of
-use Rattle.first_line.proofs.put_refused.Reads as first-line-put-refused
 use Rattle.acknowledgment.proofs.acknowledge.Reads as acknowledgment-acknowledge
 use Rattle.acknowledgment.proofs.x12_acknowledge.Reads as acknowledgment-x12-acknowledge
 use Rattle.exchange.proofs.exchange.Reads as exchange-exchange
@@ -435,13 +433,6 @@ blocks-add-se-once = ((λ κs a. tt), λ κs a r₁ r₂ s₁ s₂ p q. from-onc
 -- notes
 notes-put-notes-once : Determined notes-put-notes.Pre notes-put-notes.Post (λ κs r s. beside r (now (s .0)))
 notes-put-notes-once = ((λ κs a. tt), λ κs a r₁ r₂ s₁ s₂ p q. tells-once p q)
-
--- first_line
-first-line-call-of-once : Determined first-line-call-of.Pre first-line-call-of.Post (λ κs r s. r)
-first-line-call-of-once = ((λ κs a. tt), λ κs a r₁ r₂ s₁ s₂ p q. p ∙ sym q)
-
-first-line-put-refused-once : Determined first-line-put-refused.Pre first-line-put-refused.Post (λ κs r s. beside r (now (s .0)))
-first-line-put-refused-once = ((λ κs a. tt), λ κs a r₁ r₂ s₁ s₂ p q. wrote-once p q)
 
 -- acknowledgment
 acknowledgment-acknowledge-once : Determined acknowledgment-acknowledge.Pre acknowledgment-acknowledge.Post (λ κs r s. beside r (now (s .1 .0)))

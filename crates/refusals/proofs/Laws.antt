@@ -29,14 +29,17 @@ use Rattle.refusals.specs.Checks.{innerRefusal, laterRefusal, soundIn, s
 use Rattle.refusals.specs.declared.Checked.the-variants.{Sound, Refused}
 
 -- 1. The first that is not 0.
+-- this stage has a refusal
 pub here : {n m : ℕ} (ns : List ℕ) → n ≡ m → (n ≡ 0 → ⊥) → n ≡ firstOf (m ∷ ns)
 unfolding firstOf
 here {n} {m} ns e h = rw (← e, ne-eqb n 0 h)
 
+-- this stage has none, and those after it decide
 pub onward : {n m k : ℕ} (ns : List ℕ) → m ≡ k → m ≡ 0 → n ≡ firstOf ns → n ≡ firstOf (k ∷ ns)
 unfolding firstOf
 onward {n} {m} {k} ns e z r = rw (← e, z) r
 
+-- the last stage decides alone
 pub only : {n m : ℕ} → n ≡ m → n ≡ firstOf (m ∷ [])
 unfolding firstOf
 only {n} {m} e = e ∙ go (eqb m 0) refl
@@ -65,6 +68,7 @@ pub record Unrefused (i : Bytes) : Type 0 where
   pub envelope : first (envelopeRules (segments (delimiters i) i)) ≡ 0
   pub sets : first (setRules (delimiters i) (groupOf (segments (delimiters i) i) .body)) ≡ 0
 
+-- where there is no refusal, no stage has one
 pub unrefused : (i : Bytes) (call : Call) → refusal i call ≡ 0 → Unrefused i
 unrefused i call e =
     let stages = clear _ (sym (refusal-blocks i call) ∙ e) in
@@ -73,19 +77,23 @@ unrefused i call e =
 
 -- 2. Refusals 8 to 13, by the bytes at their places.
 module _ (d : Delimiters) (i : Bytes) {n : ℕ} where
+  -- 8, of IEA
   pub trailer-stage : (e : Envelope) {iea isa13 : Bytes} {f : TrailerFault} → n ≡ faultNumber f → f ≡ trailerFault (split (d .element) iea) 1 isa13
       → iea ≡ part i (e .iea) (e .«iea_end») → isa13 ≡ field (isa i) 13
       → n ≡ first (trailerRules (split (d .element) (part i (e .iea) (e .«iea_end»))) 1 (field (isa i) 13))
   trailer-stage e p q r s = p ∙ ap faultNumber q ∙ fault-number _ 1 _ ∙ rw (r, s)
 
+  -- 9, of GS
   pub header-stage : (g : GroupAt) {gs : Bytes} → gs ≡ part i (g .gs) (g .«gs_end») → n ≡ first (headerRules d (split (d .element) gs))
       → n ≡ first (headerRules d (groupAt d i g .header))
   header-stage g q p = p ∙ rw q
 
+  -- 10, of GS
   pub answer-stage : (g : GroupAt) {gs : Bytes} → gs ≡ part i (g .gs) (g .«gs_end») → n ≡ first (answerRules (split (d .element) gs))
       → n ≡ first (answerRules (groupAt d i g .header))
   answer-stage g q p = p ∙ rw q
 
+  -- 11 to 13, of the group's segments
   pub sets-stage : (g : GroupAt) {body : Bytes} → body ≡ part i (g .body) (g .«body_end») → n ≡ first (setRules d (segments d body))
       → n ≡ first (setRules d (groupAt d i g .body))
   sets-stage g q p = p ∙ rw q
@@ -109,11 +117,13 @@ unless-sound : (d : Delimiters) (i : Bytes) {n : ℕ} {e : Envelope} → 0 ≡ n
 unless-sound d i z w = rw (← z, w)
 
 module _ (d : Delimiters) (i : Bytes) {n : ℕ} (p : n ≡ first (endRules d i)) where
+  -- 6
   pub end-refused : (n ≡ 0 → ⊥) → Refused n ≡ checkedWith d i
   unfolding checkedWith laterRefusal
   end-refused h = unless-refused _ _ (here _ p h) h
 
   module _ (p₀ : n ≡ 0) where
+    -- 7
     pub broken : envelopeOf d i ≡ Broken → Refused 7 ≡ checkedWith d i
     unfolding checkedWith laterRefusal
     broken w =
@@ -124,6 +134,7 @@ module _ (d : Delimiters) (i : Bytes) {n : ℕ} (p : n ≡ first (endRules d i))
     unfolding laterRefusal
     inner-decides w q = onward _ p p₀ (onward _ (sym (whole-passes d i w)) refl (q ∙ inner-is (whole-is d i w)))
 
+    -- 8 to 13, or none
     pub inner-refused : {m : ℕ} {e : Envelope} → envelopeOf d i ≡ Whole e → m ≡ innerRefusal d i e → (m ≡ 0 → ⊥) → Refused m ≡ checkedWith d i
     unfolding checkedWith
     inner-refused w q h = unless-refused _ _ (inner-decides w q) h
@@ -139,17 +150,20 @@ module _ (i : Bytes) (call : Call) where
   refusal-later = refusal-blocks i call ∙ rw (← only {n = laterRefusal (delimiters i) i} refl)
 
   module _ {n : ℕ} (p : n ≡ first (callRules call)) where
+    -- 1
     pub call-refused : (n ≡ 0 → ⊥) → Refused n ≡ checked i call
     unfolding checked
     call-refused h = unless-refused _ _ (here _ p h ∙ sym refusal-later) h
 
     module _ (p₀ : n ≡ 0) where
+      -- 2 to 5
       pub isa-refuses : {m : ℕ} → isaOf i ≡ isas.Refused m → Refused m ≡ checked i call
       unfolding checked
       isa-refuses e =
           let due = isa-refused i e in
           unless-refused _ _ (onward _ p p₀ (here _ (due .0) (due .1)) ∙ sym refusal-later) (due .1)
 
+      -- past ISA, the interchange with its delimiters decides
       pub delimited : {d : Delimiters} → isaOf i ≡ isas.Sound d → checkedWith d i ≡ checked i call
       unfolding checked checkedWith
       delimited e =

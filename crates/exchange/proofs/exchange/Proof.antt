@@ -2,7 +2,7 @@
 use mathlib.Core.Path.{sym, _∙_}
 use native.Mathlib.Omega.{arith}
 use borrow.Author.Needs.{needs}
-use Rattle.first_line.proofs.Laws.{starts-within, rest}
+use Rattle.exchange.proofs.FirstLine.{starts-within, rest}
 use Rattle.exchange.proofs.Laws.{exchanged}
 use Rattle.exchange.proofs.exchange.Statement.{statement}
 use Rattle.exchange.proofs.exchange.Tie as tie
@@ -12,9 +12,6 @@ sub-print-answer c = starts-within _ (sym (c .before .before .call .given .1) �
 
 part-print-answer-start : tie.Need-part-print-answer-start
 part-print-answer-start c = starts-within _ (sym (c .before .before .call .given .1) ∙ c .before .before .before .before .call-of .ensures)
-
-enum-told : tie.Need-enum-told
-enum-told c = search needs
 
 returns : tie.Need-returns
 returns c = exchanged _ (sym (c .before .before .before .before .before .before .call .given .1) ∙ c .before .before .before .before .before .before .before .before .call-of .ensures) (rw rest at (c .before .before .print-answer .ensures)) (omega arith)
@@ -32,7 +29,7 @@ exchange-spec =
     part-print-answer-start
     (λ c. search needs)
     (λ c κs. search needs)
-    enum-told
+    (λ c. search needs)
     (λ c κs. search needs)
     (λ c. search needs)
     returns

@@ -1,8 +1,7 @@
-// The first line of the program's input, and the text that the program prints for a refusal.
+// The first line of the program's input.
 ghost use mathlib.Core.Path.{_≡_};
-ghost use Rattle.rules.specs.Program.{isCall, refusedText};
-ghost use Rattle.writing.specs.Over.{Wrote};
-ghost use Rattle.first_line.specs.Calls.{lineOn, lineIn};
+ghost use Rattle.rules.specs.Program.{isCall};
+ghost use Rattle.exchange.specs.Calls.{lineOn, lineIn};
 use rules::Call;
 use text::is_digits;
 use text::value;
@@ -23,7 +22,7 @@ pub enum FirstLine {
 }
 
 // The call that an input makes, by its first line; bad where that has no LF.
-pub fn call_of(input: &[u8]) -> FirstLine
+pub(crate) fn call_of(input: &[u8]) -> FirstLine
     ensures { λ r. ⌜ r ≡ lineIn (now (input .entry)) ⌝ }
 {
     let end = text::find(input, 0, b'\n');
@@ -71,13 +70,4 @@ fn is_call(line: &[u8]) -> bool
         return false;
     }
     is_digits(&line[CONTROL..], 1, 9)
-}
-
-// `refused`, the number and LF.
-pub fn put_refused(out: &mut [u8], number: u8) -> usize
-    ensures { λ r. ⌜ Wrote (refusedText number) r (now (out .entry)) (now (out .exit)) ⌝ }
-{
-    let n = writing::add_bytes(out, 0, b"refused ");
-    let n = writing::add_number(out, n, number as u64);
-    writing::add_byte(out, n, b'\n')
 }

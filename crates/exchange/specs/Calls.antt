@@ -4,8 +4,8 @@ use mathlib.Core.Option.{Option, none, some}
 use lib.ListN.{length}
 use Rattle.rules.specs.Base.{Bytes, if_then_else_}
 use Rattle.rules.specs.Program.{Input, parted, isCall, callOn}
-use Rattle.first_line.specs.declared.FirstLine.{FirstLine}
-use Rattle.first_line.specs.declared.FirstLine.the-variants.{Numbers, Bad}
+use Rattle.exchange.specs.declared.first_line.FirstLine.{FirstLine}
+use Rattle.exchange.specs.declared.first_line.FirstLine.the-variants.{Numbers, Bad}
 
 -- the numbers on a line, and the place after its LF
 abbrev pub lineOn : Bytes → FirstLine

@@ -1,13 +1,13 @@
--- `first_line::is_call` meets its contract.
+-- `exchange::first_line::is_call` meets its contract.
 use mathlib.Core.Path.{refl, sym, _∙_}
 use mathlib.Core.Bool.{true, false}
 use native.Mathlib.Omega.{arith}
 use borrow.Author.Tests.{eq-eqb, ne-eqb, not-true, not-false}
 use borrow.Author.Needs.{needs}
 use lib.Seq.{length-take-le}
-use Rattle.first_line.proofs.Laws.{too-short, by-tests}
-use Rattle.first_line.proofs.is_call.Statement.{statement}
-use Rattle.first_line.proofs.is_call.Tie as tie
+use Rattle.exchange.proofs.FirstLine.{too-short, by-tests}
+use Rattle.exchange.proofs.first_line.is_call.Statement.{statement}
+use Rattle.exchange.proofs.first_line.is_call.Tie as tie
 
 returns : tie.Need-returns
 returns c = sym (too-short _ (c .if1 .taken))

@@ -1,13 +1,10 @@
--- `exchange::print_answer` meets its contract.
+-- `exchange::printing::print_answer` meets its contract.
 use mathlib.Core.Path.{refl}
 use native.Mathlib.Omega.{arith}
 use borrow.Author.Needs.{needs}
 use Rattle.exchange.proofs.Laws.{written, refused}
-use Rattle.exchange.proofs.print_answer.Statement.{statement}
-use Rattle.exchange.proofs.print_answer.Tie as tie
-
-enum-told : tie.Need-enum-told
-enum-told c = search needs
+use Rattle.exchange.proofs.printing.print_answer.Statement.{statement}
+use Rattle.exchange.proofs.printing.print_answer.Tie as tie
 
 returns : tie.Need-returns
 returns c = written _ _ (c .before .before .before .before .before .acknowledge .ensures) (c .before .n .given .1) (omega arith)
@@ -26,7 +23,7 @@ print-answer-spec =
     (λ c. search needs)
     (λ c. search needs)
     (λ c κs. search needs)
-    enum-told
+    (λ c. search needs)
     (λ c κs. search needs)
     (λ c. search needs)
     returns

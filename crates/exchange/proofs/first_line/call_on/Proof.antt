@@ -1,4 +1,4 @@
--- `first_line::call_on` meets its contract.
+-- `exchange::first_line::call_on` meets its contract.
 use mathlib.Core.Path.{_≡_, sym, _∙_}
 use mathlib.Core.Bool.{true}
 use native.Mathlib.Omega.{arith}
@@ -6,9 +6,9 @@ use borrow.Author.Tests.{not-true, not-false}
 use borrow.Author.Needs.{needs}
 use lib.Seq.{length-take-le}
 use Rattle.rules.specs.Program.{isCall}
-use Rattle.first_line.proofs.Laws.{Call-line, call-line, nine-digits, numbers-on}
-use Rattle.first_line.proofs.call_on.Statement.{statement}
-use Rattle.first_line.proofs.call_on.Tie as tie
+use Rattle.exchange.proofs.FirstLine.{Call-line, call-line, nine-digits, numbers-on}
+use Rattle.exchange.proofs.first_line.call_on.Statement.{statement}
+use Rattle.exchange.proofs.first_line.call_on.Tie as tie
 
 passed : (c : tie.Else1) → isCall (c .before .before .before .args .line .now) ≡ true
 passed c = sym (c .before .is-call .ensures) ∙ not-false _ (c .if1 .left)

@@ -1,9 +1,9 @@
--- `first_line::put_refused` meets its contract: a row of pieces.
+-- `exchange::printing::put_refused` meets its contract: a row of pieces.
 use borrow.Author.Needs.{needs}
 use Rattle.rules.specs.Program.{refusedText}
 use Rattle.writing.proofs.Laws.{seq, whole, stays}
-use Rattle.first_line.proofs.put_refused.Statement.{statement}
-use Rattle.first_line.proofs.put_refused.Tie as tie
+use Rattle.exchange.proofs.printing.put_refused.Statement.{statement}
+use Rattle.exchange.proofs.printing.put_refused.Tie as tie
 
 returns : tie.Need-returns
 unfolding refusedText
@@ -19,9 +19,5 @@ put-refused-spec = tie.close (tie.spec
     (λ c κs. search needs)
     (λ c κs. search needs)
     (λ c κs. search needs)
-    (λ
-    c.
-    stays
-    (returns c)
-    )
+    (λ c. stays (returns c))
     returns)

@@ -21,9 +21,9 @@ use Rattle.rules.proofs.Logic.{and-left, and-right}
 use Rattle.text.specs.Text.{indexOf, indexWhere, upToTen}
 use Rattle.text.proofs.Digits.{digits-length, value-of, value-below}
 use Rattle.text.proofs.Loops.{and-false}
-use Rattle.first_line.specs.Calls.{lineOn, lineFor, lineIn}
-use Rattle.first_line.specs.declared.FirstLine.{FirstLine}
-use Rattle.first_line.specs.declared.FirstLine.the-variants.{Numbers, Bad}
+use Rattle.exchange.specs.Calls.{lineOn, lineFor, lineIn}
+use Rattle.exchange.specs.declared.first_line.FirstLine.{FirstLine}
+use Rattle.exchange.specs.declared.first_line.FirstLine.the-variants.{Numbers, Bad}
 
 -- 1. Parts of bytes.
 -- a part in the middle, cut at its end first or at its start first

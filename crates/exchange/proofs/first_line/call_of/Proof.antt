@@ -1,11 +1,11 @@
--- `first_line::call_of` meets its contract.
+-- `exchange::first_line::call_of` meets its contract.
 use mathlib.Core.Path.{sym, _∙_}
 use native.Mathlib.Omega.{arith}
 use borrow.Author.Needs.{needs}
 use lib.Seq.{length-take-le}
-use Rattle.first_line.proofs.Laws.{no-call, call-at}
-use Rattle.first_line.proofs.call_of.Statement.{statement}
-use Rattle.first_line.proofs.call_of.Tie as tie
+use Rattle.exchange.proofs.FirstLine.{no-call, call-at}
+use Rattle.exchange.proofs.first_line.call_of.Statement.{statement}
+use Rattle.exchange.proofs.first_line.call_of.Tie as tie
 
 returns : tie.Need-returns
 returns c = sym (no-call _ _ (c .before .find .ensures) (c .if1 .taken))
