@@ -9,14 +9,14 @@ respond-requires : tie.Need-respond-requires
 respond-requires c κs =
     let rows = c .before .before .before in
     let scope = rows .before .before in
-    let entry = scope .before .before .before in
+    let entry = scope .before .before .before .before in
     answerable _ _ (entry .pre) (rows .before .directory .ensures) (rows .rows .ensures) (scope .scope-of .ensures ∙ rw (scope .before .part .ensures))
 
 returns : tie.Need-returns
 returns c =
     let answer = c .before .before in
     let scope = answer .before .before .before .before .before .before in
-    allowed _ _ _ (scope .before .before .before .pre .0) (answer .respond .ensures)
+    allowed _ _ _ (scope .before .before .before .before .pre .0) (answer .respond .ensures)
 
 pub answer-group-spec : {M : Type 1} → statement M
 answer-group-spec =

@@ -69,7 +69,7 @@ add-received : tie.Need-add-received Inv-loop μ-loop
 add-received c = let mark = c .before .before .before .before in omega (arith, room (mark .before .before .before .before .before .before .before .before))
 
 loop-less : tie.Need-loop-less Inv-loop μ-loop
-loop-less c = let mark = c .before .before .before .before in omega (arith, set (mark .before .before .before .before .before .before .before .before) .onward)
+loop-less c = omega (arith, set (c .before .before .before .before .before .before .before .before .before .before .before .before) .onward)
 
 loop-again : tie.Need-loop-again Inv-loop μ-loop
 loop-again c =
