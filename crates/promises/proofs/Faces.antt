@@ -1,15 +1,14 @@
 -- What holds of every outcome of a call, by the Rattle function and by the face for C: read off the contracts of both.
 use mathlib.Core.Path.{_≡_, sym, ap, _∙_, subst⁻¹}
 use mathlib.Core.Bool.{true}
-use mathlib.Core.List.{List, [], _∷_, _++_}
+use mathlib.Core.List.{_++_}
 use Prim.Native.Nat.{ℕ, _≤_, _<_}
 use denote.Ref.{now}
 use lib.ListN.{length, drop, getD}
 use Rattle.rules.specs.Base.{Bytes, all}
-use Rattle.rules.specs.Cutting.{Segment, delimiters}
 use Rattle.rules.specs.Refusals.{refusal}
-use Rattle.rules.specs.Response.{out, respond, response}
-use Rattle.rules.specs.Answers.{Allowed, Outcome, outcome, answer, called}
+use Rattle.rules.specs.Response.{respond, response}
+use Rattle.rules.specs.Answers.{Allowed, Outcome, outcome, called}
 use Rattle.rules.specs.Damage.{groupIn}
 use Rattle.rules.specs.declared.Call.{Call}
 use Rattle.rules.proofs.Exchange.{received, sent, sampleCall}

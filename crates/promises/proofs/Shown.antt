@@ -135,6 +135,7 @@ pub groups-shown : (g : Group) (k : ℕ) → k < length groups → (lent : Bytes
 groups-shown g k h lent room =
     let row = getD groups k g in
     shows (receivedIn row) (sentIn row) lent (all-at (λ g. begins (receivedIn g) (sentIn g)) groups g k groups-begin h) room
+
 -- 5. The printed exchange, on any buffer: a program that knows it by the buffer's length is shut out.
 exact : called received (replicate 334 7) sampleCall ≡ record { number = 0; size = 334; buffer = sent }
 unfolding called exchange

@@ -187,10 +187,10 @@ gs06-filled : (d : Delimiters) (gs : Segment) → goodGS d gs ≡ true → isFil
 unfolding goodGS
 gs06-filled d gs e =
     let before =
-        eqb (length gs) 9
-        && eqb (length (field gs 1)) 2 && all isUpperOrDigit (field gs 1)
-        && text d 2 15 (field gs 2) && text d 2 15 (field gs 3)
-        && isDate (field gs 4) && isTime (field gs 5) in
+    eqb (length gs) 9
+    && eqb (length (field gs 1)) 2 && all isUpperOrDigit (field gs 1)
+    && text d 2 15 (field gs 2) && text d 2 15 (field gs 3)
+    && isDate (field gs 4) && isTime (field gs 5) in
     let gs06 = digits 1 9 (field gs 6) in
     let gs07 = text d 1 2 (field gs 7) in
     digits-filled (field gs 6) (and-right before gs06 (and-left (before && gs06) gs07 (and-left (before && gs06 && gs07) (text d 1 12 (field gs 8)) e)))
