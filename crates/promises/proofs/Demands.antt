@@ -1,5 +1,5 @@
 -- The demands over `acknowledge`: what holds of any answer and any buffer that its contract allows.
-use mathlib.Core.Path.{_≡_, refl, sym, ap, _∙_}
+use mathlib.Core.Path.{_≡_, refl, sym, ap, _∙_, subst}
 use mathlib.Core.Bool.{Bool, true, false}
 use mathlib.Core.List.{List, [], _∷_, _++_}
 use Prim.Native.Nat.{ℕ, _≤_, _<_}
@@ -96,3 +96,17 @@ spoiled i lent lent′ call a a′ left left′ p e after damaged short q fits =
       since = q .1 ∙ ap (λ (x : Answer). buffer x (response (rebuilt i after) call) lent′) (q .0) ∙ s .written;
       stays = s;
     }
+
+-- Demand 3 over two calls of `acknowledge`: the first on i, the second on i with other segments in some of its sets, by the same numbers. Shut
+-- out: a program in which a set's report depends on what stands inside another set, or a group's codes on what stands inside any.
+pub spoiled-calls : (κs : _) (a : _) (r : _) (s : _) → acknowledge.Post κs a r s → number r ≡ 0
+    → (after : List Set) → Damaged (delimiters (now (a .0))) (setsIn (now (a .0))) after → length (rebuilt (now (a .0)) after) ≤ 65536
+    → (κs′ : _) (a′ : _) (r′ : _) (s′ : _) → acknowledge.Post κs′ a′ r′ s′ → now (a′ .0) ≡ rebuilt (now (a .0)) after → a′ .1 .1 .0 ≡ a .1 .1 .0
+    → length (response (rebuilt (now (a .0)) after) (a .1 .1 .0)) ≤ length (now (a′ .1 .0))
+    → OneSpoiled (now (a .0)) (rebuilt (now (a .0)) after) after (now (a .1 .0)) (now (a′ .1 .0)) (a .1 .1 .0) r′ (now (s .1 .0)) (now (s′ .1 .0))
+spoiled-calls κs a r s p e after damaged short κs′ a′ r′ s′ q same-bytes same-call fits =
+    let second =
+    subst (λ (c : Call). Allowed (rebuilt (now (a .0)) after) (now (a′ .1 .0)) c r′ (now (s′ .1 .0))) same-call
+    (subst (λ (j : Bytes). Allowed j (now (a′ .1 .0)) (a′ .1 .1 .0) r′ (now (s′ .1 .0))) same-bytes (allows κs′ a′ r′ s′ q)) in
+    spoiled (now (a .0)) (now (a .1 .0)) (now (a′ .1 .0)) (a .1 .1 .0) r r′ (now (s .1 .0)) (now (s′ .1 .0))
+    (allows κs a r s p) e after damaged short second fits

@@ -1,2 +1,7 @@
+pub mod Numerals
+pub mod Trailing
+pub mod Shown
 pub mod Demands
+pub mod Accepted
+pub mod Faces
 pub mod Determined

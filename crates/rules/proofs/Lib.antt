@@ -11,3 +11,5 @@ pub mod Exchange
 pub mod Marked
 pub mod Tempting
 pub mod Accepting
+pub mod Unused
+pub mod Placed

@@ -1,0 +1,213 @@
+-- "Empty trailing elements are left off": the last field of every segment of a response is filled.
+use mathlib.Core.Path.{_≡_, refl}
+use mathlib.Core.Bool.{Bool, true, false, _&&_, not, false≢true}
+use mathlib.Core.List.{List, [], _∷_, _++_, map}
+use mathlib.Core.Option.{Option, none, some}
+use Prim.Native.Nat.{ℕ, _+_, _/_, _%_}
+use borrow.Author.Tests.{not-false}
+use lib.Dec.{eqb}
+use lib.ListN.{length}
+use Rattle.rules.specs.Base.{Bytes, ascii, null, all, last, isUpperOrDigit, keep, every, _⇒_, if_then_else_}
+use Rattle.rules.specs.Cutting.{Segment, field, delimiters, text}
+use Rattle.rules.specs.Numbers.{digits, isDate, isTime, padded, decimal}
+use Rattle.rules.specs.Tables.{Table, Entry}
+use Rattle.rules.specs.Segments.{Note, missing, echoed, noted, segmentNote, walk, notesOf}
+use Rattle.rules.specs.Sets.{Set, controlOf, notesIn, SetReport, setReport, accepted}
+use Rattle.rules.specs.Groups.{Group, sets, tableIn, setReports, GroupReport, groupReport}
+use Rattle.rules.specs.Refusals.{goodGS, goodST, callRules, headRules, endRules, envelopeRules, trailerRules, groupRules, answerRules, setRules, refusalRules, refusal}
+use Rattle.rules.specs.Response.{ak4, ak3, ak3s, ak2, ak5, block, blocks, ak1, ak9, stOut, seOut, told, transactionSet, isaOut, gsOut, geOut, ieaOut, respond}
+use Rattle.rules.specs.Damage.{groupIn, reportIn}
+use Rattle.rules.specs.declared.Call.{Call}
+use Rattle.rules.specs.declared.Delimiters.{Delimiters}
+use Rattle.rules.specs.declared.Finding.{Finding}
+use Rattle.rules.proofs.Logic.{and-left, and-right, all-head, all-tail, all-cons, all-append, last-all, silent}
+use Rattle.rules.proofs.Lengths.{either}
+use Rattle.promises.proofs.Numerals.{decimal-some}
+
+abbrev pub isFilled : Bytes → Bool
+isFilled bs = not (null bs)
+
+-- no empty element at the end
+abbrev pub isTrim : Segment → Bool
+isTrim s = isFilled (last [] s)
+
+-- 1. What a report must have for it: GS06, every ST02, and a code in every note.
+abbrev pub isCoded : Note → Bool
+isCoded n = not (null (n .codes))
+
+abbrev pub isNamedSet : SetReport → Bool
+isNamedSet r = isFilled (r .st02) && all isCoded (r .notes)
+
+pub record Filled (g : GroupReport) : Type 0 where
+  pub gs06 : isFilled (g .gs06) ≡ true
+  pub sets : all isNamedSet (g .sets) ≡ true
+
+-- 2. Numbers are never empty.
+number-filled : (n : ℕ) → isFilled (decimal n) ≡ true
+number-filled n = rw (decimal-some n)
+
+numbers-filled : (ns : List ℕ) → all isFilled (map decimal ns) ≡ true
+unfolding all
+numbers-filled [] = refl
+numbers-filled (n ∷ ns) = rw (decimal-some n) (numbers-filled ns)
+
+append-filled : (bs : Bytes) (b : ℕ) → isFilled (bs ++ b ∷ []) ≡ true
+append-filled [] b = refl
+append-filled (x ∷ bs) b = refl
+
+padded-filled : (n : ℕ) → isFilled (padded 9 n) ≡ true
+unfolding padded
+padded-filled n = append-filled (padded 8 (n / 10)) (48 + n % 10)
+
+-- 3. The segments, one after the other.
+ak4s-trim : (fs : List Finding) → all isTrim (map ak4 fs) ≡ true
+unfolding all ak4 last
+ak4s-trim [] = refl
+ak4s-trim (f ∷ fs) = rw (decimal-some (f .code)) (ak4s-trim fs)
+
+codes-trim : (first : Bytes) (ns : List ℕ) → isFilled first ≡ true → isFilled (last first (map decimal ns)) ≡ true
+codes-trim first ns e = last-all isFilled first (map decimal ns) e (numbers-filled ns)
+
+coded-trim : (ns : List ℕ) → not (null ns) ≡ true → isFilled (last [] (map decimal ns)) ≡ true
+unfolding last
+coded-trim [] e = absurd (false≢true e)
+coded-trim (n ∷ ns) e = codes-trim (decimal n) ns (number-filled n)
+
+ak3-trim : (n : Note) → isCoded n ≡ true → all isTrim (ak3 n) ≡ true
+unfolding ak3 all last
+ak3-trim n e = rw (coded-trim (n .codes) e) (ak4s-trim (n .findings))
+
+ak3s-trim : (ns : List Note) → all isCoded ns ≡ true → all isTrim (ak3s ns) ≡ true
+unfolding ak3s all
+ak3s-trim [] e = refl
+ak3s-trim (n ∷ ns) e = all-append isTrim (ak3 n) (ak3s ns) (ak3-trim n (all-head isCoded n ns e)) (ak3s-trim ns (all-tail isCoded n ns e))
+
+ak5-trim : (r : SetReport) → isTrim (ak5 r) ≡ true
+unfolding ak5 last
+ak5-trim r =
+    codes-trim (if accepted r then ascii "A" else ascii "R") (r .codes)
+    (either (λ (bs : Bytes). isFilled bs ≡ true) (accepted r) refl refl)
+
+ak9-trim : (g : GroupReport) → isTrim (ak9 g) ≡ true
+unfolding ak9 last
+ak9-trim g = codes-trim (decimal (g .allowed)) (g .codes) (number-filled (g .allowed))
+
+block-trim : (r : SetReport) → isNamedSet r ≡ true → all isTrim (block r) ≡ true
+unfolding block ak2 last all
+block-trim r e =
+    let st02 = isFilled (r .st02) in
+    let notes = all isCoded (r .notes) in
+    all-cons isTrim (ak2 r) (ak3s (r .notes) ++ ak5 r ∷ []) (and-left st02 notes e)
+    (all-append isTrim (ak3s (r .notes)) (ak5 r ∷ []) (ak3s-trim (r .notes) (and-right st02 notes e)) (all-cons isTrim (ak5 r) [] (ak5-trim r) refl))
+
+blocks-trim : (rs : List SetReport) → all isNamedSet rs ≡ true → all isTrim (blocks rs) ≡ true
+unfolding blocks all
+blocks-trim [] e = refl
+blocks-trim (r ∷ rs) e =
+    all-append isTrim (block r) (blocks rs) (block-trim r (all-head isNamedSet r rs e)) (blocks-trim rs (all-tail isNamedSet r rs e))
+
+transaction-trim : (st02 : Bytes) (g : GroupReport) → isFilled st02 ≡ true → Filled g → all isTrim (transactionSet st02 g) ≡ true
+unfolding transactionSet told stOut seOut ak1 last all
+transaction-trim st02 g e f =
+    let n = length (told st02 g) + 1 in
+    all-append isTrim (told st02 g) (seOut n st02 ∷ [])
+    (all-cons isTrim (stOut st02) (ak1 g ∷ (blocks (g .sets) ++ ak9 g ∷ [])) e
+    (all-cons isTrim (ak1 g) (blocks (g .sets) ++ ak9 g ∷ []) (f .gs06)
+    (all-append isTrim (blocks (g .sets)) (ak9 g ∷ []) (blocks-trim (g .sets) (f .sets)) (all-cons isTrim (ak9 g) [] (ak9-trim g) refl))))
+    (all-cons isTrim (seOut n st02) [] e refl)
+
+-- Every segment that is written for a report with these parts ends with a filled element. A writer that puts a separator for an element that
+-- is not there, as AK5 without codes or an AK3 without a code, is shut out.
+pub respond-trim : (i : Bytes) (g : Group) (call : Call) → Filled (groupReport (delimiters i) g) → all isTrim (respond i g call) ≡ true
+unfolding respond isaOut gsOut geOut ieaOut last all
+respond-trim i g call f =
+    let d = delimiters i in
+    let ts = transactionSet (ascii "0001") (groupReport d g) in
+    let ge = geOut 1 (call .control) in
+    let iea = ieaOut 1 (call .control) in
+    all-append isTrim ts (ge ∷ iea ∷ []) (transaction-trim (ascii "0001") (groupReport d g) refl f)
+    (all-cons isTrim ge (iea ∷ []) (number-filled (call .control))
+    (all-cons isTrim iea [] (padded-filled (call .control)) refl))
+
+-- 4. What is reported of an interchange that is not refused has these parts.
+missing-coded : (n : ℕ) (es : List Entry) → all isCoded (missing n es) ≡ true
+unfolding missing all
+missing-coded n es = go (keep (λ e. e .mandatory) es)
+  where
+    go : (es : List Entry) → all isCoded (map (λ e. record { id = e .id; position = n; codes = 3 ∷ []; findings = [] }) es) ≡ true
+    go [] = refl
+    go (e ∷ es) = go es
+
+noted-coded : (id : Bytes) (n : ℕ) (cs : List ℕ) (fs : List Finding) → all isCoded (noted id n cs fs) ≡ true
+unfolding all
+noted-coded id n [] fs = refl
+noted-coded id n (c ∷ cs) fs = refl
+
+segment-coded : (n c : ℕ) (id : Bytes) (fs : List Finding) → all isCoded (segmentNote n c id fs) ≡ true
+unfolding segmentNote
+segment-coded n c id fs = noted-coded (echoed id) n (every ((not (eqb c 0) ⇒ c) ∷ (not (null fs) ⇒ 8) ∷ [])) fs
+
+none-coded : all isCoded [] ≡ true
+unfolding all
+none-coded = refl
+
+walk-coded : (d : Delimiters) (t : Table) (closed : Bool) (p : _) (n : ℕ) (ss : List Segment) → all isCoded (walk d t closed p n ss) ≡ true
+unfolding walk
+walk-coded d t true p n [] = none-coded
+walk-coded d t false p n [] = missing-coded _ _
+walk-coded d t closed p n (s ∷ ss) =
+    let rest : (p : _) (n : ℕ) → all isCoded (walk d t closed p n ss) ≡ true = λ p n. walk-coded d t closed p n ss in
+    all-append isCoded _ _ (all-append isCoded _ _ (missing-coded _ _) (segment-coded _ _ _ _)) (rest _ _)
+
+notes-coded : (d : Delimiters) (t : Option Table) (s : Set) → all isCoded (notesIn d t s) ≡ true
+unfolding notesOf
+notes-coded d none s = none-coded
+notes-coded d (some t) s = walk-coded d t _ _ _ _
+
+text-filled : (d : Delimiters) (bs : Bytes) → text d 4 9 bs ≡ true → isFilled bs ≡ true
+unfolding text
+text-filled d [] e = e
+text-filled d (b ∷ bs) e = refl
+
+digits-filled : (bs : Bytes) → digits 1 9 bs ≡ true → isFilled bs ≡ true
+unfolding digits
+digits-filled [] e = e
+digits-filled (b ∷ bs) e = refl
+
+reports-named : (d : Delimiters) (table : Set → Option Table) (controls : List Bytes) (ss : List Set) → all (λ s. goodST d (s .header)) ss ≡ true
+    → all isNamedSet (setReports d table controls ss) ≡ true
+unfolding setReports setReport goodST all
+reports-named d table controls [] e = refl
+reports-named d table controls (s ∷ ss) e =
+    let good : Set → Bool = λ s. goodST d (s .header) in
+    let st02 = text-filled d (controlOf s) (and-right (digits 3 3 (field (s .header) 1)) (text d 4 9 (controlOf s)) (all-head good s ss e)) in
+    rw (st02, notes-coded d (table s) s) (reports-named d table (controlOf s ∷ controls) ss (all-tail good s ss e))
+
+gs06-filled : (d : Delimiters) (gs : Segment) → goodGS d gs ≡ true → isFilled (field gs 6) ≡ true
+unfolding goodGS
+gs06-filled d gs e =
+    let before =
+    eqb (length gs) 9
+    && eqb (length (field gs 1)) 2 && all isUpperOrDigit (field gs 1)
+    && text d 2 15 (field gs 2) && text d 2 15 (field gs 3)
+    && isDate (field gs 4) && isTime (field gs 5) in
+    let gs06 = digits 1 9 (field gs 6) in
+    let gs07 = text d 1 2 (field gs 7) in
+    digits-filled (field gs 6) (and-right before gs06 (and-left (before && gs06) gs07 (and-left (before && gs06 && gs07) (text d 1 12 (field gs 8)) e)))
+
+pub answered-filled : (i : Bytes) (call : Call) → refusal i call ≡ 0 → Filled (reportIn i)
+unfolding refusal refusalRules callRules headRules endRules envelopeRules trailerRules groupRules answerRules setRules groupReport
+answered-filled i call e =
+    let d = delimiters i in
+    let g = groupIn i in
+    let r = silent (refusalRules i call) tt e in
+    record {
+      gs06 = gs06-filled d (g .header) (not-false (goodGS d (g .header)) (r .1 .1 .1 .1 .1 .1 .1 .1 .0));
+      sets =
+          reports-named d (tableIn (g .header)) [] (sets g)
+          (not-false (all (λ s. goodST d (s .header)) (sets g)) (r .1 .1 .1 .1 .1 .1 .1 .1 .1 .1 .1 .1 .0));
+    }
+
+-- Every segment of the response to an interchange that is not refused ends with a filled element.
+pub response-trim : (i : Bytes) (call : Call) → refusal i call ≡ 0 → all isTrim (respond i (groupIn i) call) ≡ true
+response-trim i call e = respond-trim i (groupIn i) call (answered-filled i call e)
