@@ -4,4 +4,5 @@ pub mod Shown
 pub mod Demands
 pub mod Accepted
 pub mod Faces
+pub mod Printed
 pub mod Determined
