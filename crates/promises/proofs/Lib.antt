@@ -2,6 +2,7 @@ pub mod Numerals
 pub mod Trailing
 pub mod Shown
 pub mod Demands
+pub mod Spoiling
 pub mod Accepted
 pub mod Faces
 pub mod Printed

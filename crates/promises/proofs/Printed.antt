@@ -3,7 +3,6 @@ use mathlib.Core.Path.{_≡_, ap, _∙_}
 use Prim.Native.Nat.{ℕ}
 use denote.Ref.{now}
 use lib.ListN.{length}
-use Rattle.rules.specs.Base.{Bytes}
 use Rattle.rules.specs.Program.{printed}
 use Rattle.writing.specs.Over.{over}
 use Rattle.exchange.proofs.exchange.Reads as exchange
