@@ -10,9 +10,9 @@ use Rattle.rules.specs.Cutting.{field, delimiters}
 use Rattle.rules.specs.Numbers.{decimal}
 use Rattle.rules.specs.Sets.{Set, SetReport, isST}
 use Rattle.rules.specs.Groups.{tableIn}
-use Rattle.rules.specs.Response.{segmentOut, out, ak5, response}
+use Rattle.rules.specs.Response.{segmentOut, ak5, response}
 use Rattle.rules.specs.Answers.{number}
-use Rattle.rules.specs.Damage.{groupIn, setsIn, reportIn, blocksIn, opening, closing, joined}
+use Rattle.rules.specs.Damage.{groupIn, setsIn, reportIn, closing}
 use Rattle.rules.specs.declared.Call.{Call}
 use Rattle.rules.proofs.Damage.{response-parts}
 use Rattle.rules.proofs.Accepting.{Sound, accepting, before, report-at, four-codes, received-headers}

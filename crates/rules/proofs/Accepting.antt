@@ -13,8 +13,7 @@ use Rattle.rules.specs.Base.{Bytes, Rule, _⇒_, every, ascii, same, any
 use Rattle.rules.specs.Cutting.{Segment, field}
 use Rattle.rules.specs.Numbers.{digits, value, countIn, declares, decimal}
 use Rattle.rules.specs.Tables.{Table, table006010, table004010, editionTable, setTable}
-use Rattle.rules.specs.Segments.{notesOf}
-use Rattle.rules.specs.Sets.{Set, isST, setsOf, controlOf, setCodes, SetReport, setReport, accepted}
+use Rattle.rules.specs.Sets.{Set, isST, setsOf, controlOf, notesIn, setCodes, SetReport, setReport, accepted}
 use Rattle.rules.specs.Groups.{Group, supported, edition, sets, tableIn, setReports, groupReport}
 use Rattle.rules.specs.Response.{fieldsOut, segmentOut, ak5, ak9}
 use Rattle.rules.specs.declared.Delimiters.{Delimiters}
@@ -124,6 +123,9 @@ null-nil : {A : Type 0} (xs : List A) → null xs ≡ true → xs ≡ []
 null-nil [] e = refl
 null-nil (x ∷ xs) e = absurd (false≢true e)
 
+abbrev setAs : Segment → List Segment → Option Segment → Set
+setAs h b tr = record { header = h; body = b; trailer = tr }
+
 -- what is left of the six tests where there is a table and a trailer
 abbrev Passed : Delimiters → Option Table → List Bytes → Segment → List Segment → Option Segment → Type 0
 Passed d none es h b tr = ⊥
@@ -131,11 +133,8 @@ Passed d (some t) es h b none = ⊥
 Passed d (some t) es h b (some se) =
     (field se 2 ≡ field h 2)
     × (declares 10 (field se 1) (length (h ∷ (b ++ se ∷ []))) ≡ true)
-    × (notesOf d t true h (b ++ se ∷ []) ≡ [])
+    × (notesIn d (some t) (setAs h b (some se)) ≡ [])
     × (member (field h 2) es ≡ false)
-
-abbrev setAs : Segment → List Segment → Option Segment → Set
-setAs h b tr = record { header = h; body = b; trailer = tr }
 
 passed : (d : Delimiters) (t : Option Table) (es : List Bytes) (h : Segment) (b : List Segment) (tr : Option Segment)
     → accepted (setReport d t es (setAs h b tr)) ≡ true → Passed d t es h b tr
@@ -171,7 +170,7 @@ pub record Sound (d : Delimiters) (gs : Segment) (earlier : List Set) (s : Set) 
   pub se01 : digits 1 10 (field se 1) ≡ true
   pub counted : value (field se 1) ≡ length (s .header ∷ (s .body ++ se ∷ []))
   -- 5: there is no AK3 from ST to SE
-  pub unnoted : notesOf d table true (s .header) (s .body ++ se ∷ []) ≡ []
+  pub unnoted : notesIn d (some table) s ≡ []
   -- 23: no earlier set has its ST02
   pub unique : (j : ℕ) → j < length earlier → field (getD earlier j s .header) 2 ≡ field (s .header) 2 → ⊥
 
@@ -216,7 +215,7 @@ module _ (d : Delimiters) (gs : Segment) (earlier : List Set) (controls : List B
             se02 = h .0;
             se01 = n .0;
             counted = n .1;
-            unnoted = h .2;
+            unnoted = ap (λ (tr : Option Segment). notesIn d (some t) (setAs (s .header) (s .body) tr)) q ∙ h .2;
             unique = unique-there s earlier (sym m ∙ h .3);
           }
 
@@ -231,7 +230,7 @@ module _ (d : Delimiters) (gs : Segment) (earlier : List Set) (controls : List B
           (passes d (some (h .table)) controls (s .header) (s .body) (some (h .se)) (
             h .se02,
             declares-value 10 (field (h .se) 1) (length (s .header ∷ (s .body ++ h .se ∷ []))) .1 (h .se01, h .counted),
-            h .unnoted,
+            ap (λ (tr : Option Segment). notesIn d (some (h .table)) (setAs (s .header) (s .body) tr)) (sym (h .closed)) ∙ h .unnoted,
             m ∙ unique-back s earlier (h .unique),
           ))
 

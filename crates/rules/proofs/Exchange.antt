@@ -5,7 +5,7 @@ use lib.ListN.{length, replicate}
 use Rattle.rules.specs.Base.{Bytes, ascii}
 use Rattle.rules.specs.Response.{response}
 use Rattle.rules.specs.Answers.{Outcome, outcome, answer, buffer}
-use Rattle.rules.specs.Program.{printed}
+use Rattle.rules.specs.Program.{ackPrints}
 use Rattle.rules.specs.declared.Call.{Call}
 use Rattle.rules.proofs.Open.{everything}
 use Prim.Native.Nat.{ℕ}
@@ -52,19 +52,19 @@ unfolding everything exchange received sent
 too-short = refl
 
 -- the program, with its first line
-pub prints : printed (ascii "20240315 0930 77\n" ++ received) 65536 ≡ sent
-unfolding everything received sent
+pub prints : ackPrints (ascii "20240315 0930 77\n" ++ received) ≡ sent
+unfolding everything ackPrints received sent
 prints = refl
 
 -- a first line without its LF, and one with a letter too many
-pub prints-no-line : printed (ascii "20240315 0930 77") 65536 ≡ ascii "refused 1\n"
-unfolding everything
+pub prints-no-line : ackPrints (ascii "20240315 0930 77") ≡ ascii "refused 1\n"
+unfolding everything ackPrints
 prints-no-line = refl
 
-pub prints-bad-line : printed (ascii "20240315 0930 77x\n" ++ received) 65536 ≡ ascii "refused 1\n"
-unfolding everything received
+pub prints-bad-line : ackPrints (ascii "20240315 0930 77x\n" ++ received) ≡ ascii "refused 1\n"
+unfolding everything ackPrints received
 prints-bad-line = refl
 
-pub prints-refusal : printed (ascii "20240315 0930 77\nISA") 65536 ≡ ascii "refused 2\n"
-unfolding everything
+pub prints-refusal : ackPrints (ascii "20240315 0930 77\nISA") ≡ ascii "refused 2\n"
+unfolding everything ackPrints
 prints-refusal = refl

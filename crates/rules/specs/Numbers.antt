@@ -37,7 +37,7 @@ unfoldable pub digitsOf : ℕ → ℕ → Bytes
 digitsOf zero n = (48 + n % 10) ∷ []
 digitsOf (suc f) n = let left = digitsOf f (n / 10) in if ltb n 10 then (48 + n) ∷ [] else left ++ (48 + n % 10) ∷ []
 
--- n without leading zeros; 64 bits have at most twenty digits
+-- n without leading zeros, for n below 10^20: 64 bits have at most twenty digits
 unfoldable pub decimal : ℕ → Bytes
 decimal = digitsOf 19
 

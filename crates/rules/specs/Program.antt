@@ -61,3 +61,7 @@ printedFor (some i) room = printedCall i room
 -- what is printed for an input
 unfoldable pub printed : Bytes → ℕ → Bytes
 printed input room = printedFor (parted input) room
+
+-- what `ack` prints for an input: it lends 65,536 bytes for the response
+unfoldable pub ackPrints : Bytes → Bytes
+ackPrints input = printed input 65536
