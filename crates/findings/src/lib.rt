@@ -14,6 +14,7 @@ ghost use Rattle.findings.specs.declared.Standing.the-variants as standi
 ghost use Rattle.findings.specs.declared.Phase.the-variants as phase;
 use rules::Delimiters;
 use rules::Finding;
+use rules::SegmentCode;
 use tables::SegmentId;
 
 // What a step has come to.
@@ -234,7 +235,7 @@ fn use_code(guide: &[[u16; 6]], k: usize, used: usize) -> u8
     ensures { λ r. ⌜ r ≡ (if ltb (entryAt (now (guide .entry)) k .most) used then 5 else 0) ⌝ }
 {
     if is_over(guide, k, used) {
-        return 5;
+        return SegmentCode::BEYOND_MAXIMUM;
     }
     0
 }
@@ -275,9 +276,9 @@ fn taken(guide: &[[u16; 6]], w: Walk, end: usize, standing: Standing) -> Walk
     ensures { λ r. ⌜ r ≡ steps.taken (now (guide .entry)) w end standing ⌝ }
 {
     match standing {
-        Standing::Unknown => stayed(w, end, 1, w.present.row),
-        Standing::Unlisted => stayed(w, end, 6, w.present.row),
-        Standing::Before(k) => stayed(w, end, 7, k),
+        Standing::Unknown => stayed(w, end, SegmentCode::NOT_KNOWN, w.present.row),
+        Standing::Unlisted => stayed(w, end, SegmentCode::NOT_IN_TABLE, w.present.row),
+        Standing::Before(k) => stayed(w, end, SegmentCode::OUT_OF_ORDER, k),
         Standing::Again => repeated(guide, w, end),
         Standing::Later(k) => moved(w, end, k),
     }
@@ -347,7 +348,7 @@ fn absent(guide: &[[u16; 6]], k: usize, position: usize) -> Line
     Line {
         id: tables::id_at(guide, k),
         position,
-        own: 3,
+        own: SegmentCode::MISSING,
         faulty: false,
     }
 }
@@ -356,7 +357,7 @@ fn absent(guide: &[[u16; 6]], k: usize, position: usize) -> Line
 fn is_checked(own: u8) -> bool
     ensures { λ r. ⌜ r ≡ steps.isChecked own ⌝ }
 {
-    own != 1 && own != 6
+    own != SegmentCode::NOT_KNOWN && own != SegmentCode::NOT_IN_TABLE
 }
 
 // The elements of the segment in hand are checked, and something is found.

@@ -15,6 +15,7 @@ use findings::Line;
 use findings::Step;
 use rules::Delimiters;
 use rules::Finding;
+use rules::SegmentCode;
 use tables::SegmentId;
 
 // A segment's id as an element.
@@ -45,7 +46,7 @@ fn add_ak3(out: &mut [u8], n: usize, d: Delimiters, l: Line) -> usize
     let n = writing::add_count(out, n, d, l.position as u64);
     let n = writing::add_optional(out, n, d, 0);
     let n = add_code(out, n, d, l.own != 0, l.own);
-    let n = add_code(out, n, d, l.faulty, 8);
+    let n = add_code(out, n, d, l.faulty, SegmentCode::HAS_FINDINGS);
     writing::add_byte(out, n, d.terminator)
 }
 
