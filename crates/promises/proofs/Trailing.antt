@@ -14,7 +14,7 @@ use Rattle.rules.specs.Tables.{Table, Entry}
 use Rattle.rules.specs.Segments.{Note, missing, echoed, noted, segmentNote, walk, notesOf}
 use Rattle.rules.specs.Sets.{Set, controlOf, notesIn, SetReport, setReport, accepted}
 use Rattle.rules.specs.Groups.{Group, sets, tableIn, setReports, GroupReport, groupReport}
-use Rattle.rules.specs.Refusals.{goodGS, goodST, callRules, headRules, endRules, envelopeRules, trailerRules, groupRules, answerRules, setRules, refusalRules, refusal}
+use Rattle.rules.specs.Refusals.{goodGS, goodST, callRules, headRules, endRules, envelopeRules, trailerRules, headerRules, groupRules, answerRules, setRules, refusalRules, refusal}
 use Rattle.rules.specs.Response.{ak4, ak3, ak3s, ak2, ak5, block, blocks, ak1, ak9, stOut, seOut, told, transactionSet, isaOut, gsOut, geOut, ieaOut, respond}
 use Rattle.rules.specs.Damage.{groupIn, reportIn}
 use Rattle.rules.specs.declared.Call.{Call}
@@ -162,7 +162,7 @@ walk-coded d t closed p n (s ∷ ss) =
 notes-coded : (d : Delimiters) (t : Option Table) (s : Set) → all isCoded (notesIn d t s) ≡ true
 unfolding notesOf
 notes-coded d none s = none-coded
-notes-coded d (some t) s = walk-coded d t _ _ _ _
+notes-coded d (some t) s = all-append isCoded _ _ (segment-coded _ _ _ _) (walk-coded d t _ _ _ _)
 
 text-filled : (d : Delimiters) (bs : Bytes) → text d 4 9 bs ≡ true → isFilled bs ≡ true
 unfolding text
@@ -196,16 +196,16 @@ gs06-filled d gs e =
     digits-filled (field gs 6) (and-right before gs06 (and-left (before && gs06) gs07 (and-left (before && gs06 && gs07) (text d 1 12 (field gs 8)) e)))
 
 pub answered-filled : (i : Bytes) (call : Call) → refusal i call ≡ 0 → Filled (reportIn i)
-unfolding refusal refusalRules callRules headRules endRules envelopeRules trailerRules groupRules answerRules setRules groupReport
+unfolding refusal refusalRules callRules headRules endRules envelopeRules trailerRules groupRules headerRules answerRules setRules groupReport
 answered-filled i call e =
     let d = delimiters i in
     let g = groupIn i in
     let r = silent (refusalRules i call) tt e in
     record {
-      gs06 = gs06-filled d (g .header) (not-false (goodGS d (g .header)) (r .1 .1 .1 .1 .1 .1 .1 .1 .0));
+      gs06 = gs06-filled d (g .header) (not-false (goodGS d (g .header)) (r .1 .1 .1 .1 .1 .1 .1 .1 .1 .1 .0));
       sets =
           reports-named d (tableIn (g .header)) [] (sets g)
-          (not-false (all (λ s. goodST d (s .header)) (sets g)) (r .1 .1 .1 .1 .1 .1 .1 .1 .1 .1 .1 .1 .0));
+          (not-false (all (λ s. goodST d (s .header)) (sets g)) (r .1 .1 .1 .1 .1 .1 .1 .1 .1 .1 .1 .1 .1 .1 .0));
     }
 
 -- Every segment of the response to an interchange that is not refused ends with a filled element.
