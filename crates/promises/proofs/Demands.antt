@@ -1,8 +1,8 @@
 -- The demands over `acknowledge`: what holds of any answer and any buffer that its contract allows.
 use mathlib.Core.Path.{_≡_, refl, sym, ap, _∙_, subst}
 use mathlib.Core.Bool.{Bool, true, false}
-use mathlib.Core.List.{List, [], _∷_, _++_}
-use Prim.Native.Nat.{ℕ, _≤_, _<_}
+use mathlib.Core.List.{List, _++_}
+use Prim.Native.Nat.{_≤_, _<_}
 use native.Mathlib.Omega.{arith}
 use borrow.Author.Tests.{ne-eqb, eqb-false, le-leb, lt-leb}
 use denote.Ref.{now}
@@ -13,14 +13,15 @@ use Rattle.rules.specs.Cutting.{delimiters}
 use Rattle.rules.specs.Sets.{Set}
 use Rattle.rules.specs.Refusals.{refusal}
 use Rattle.rules.specs.Response.{out, response}
-use Rattle.rules.specs.Answers.{Allowed, answer, outcome, number, buffer}
+use Rattle.rules.specs.Answers.{Allowed, answer, outcome, called, number, buffer}
 use Rattle.rules.specs.Damage.{Damaged, setsIn, rebuilt, opening, closing, joined, blocksIn, Stays}
 use Rattle.rules.specs.declared.Call.{Call}
 use Rattle.rules.specs.declared.Answer.{Answer}
 use Rattle.rules.proofs.Damage.{response-parts, one-spoiled}
 use Rattle.acknowledgment.proofs.acknowledge.Reads as acknowledge
 
--- 0. The contract of the code, read off it: nothing is asked of a caller, and what comes back is allowed.
+-- 0. The contract of the code, read off it: nothing is asked of a caller, and what comes back is allowed. Shut out: a `requires`, by which a
+-- call would go without an answer, and a weaker `ensures`.
 pub asks-nothing : (κs : _) (a : _) → acknowledge.Pre κs a
 asks-nothing κs a = tt
 
@@ -28,14 +29,25 @@ pub allows : (κs : _) (a : _) (r : _) (s : _) → acknowledge.Post κs a r s
     → Allowed (now (a .0)) (now (a .1 .0)) (a .1 .1 .0) r (now (s .1 .0))
 allows κs a r s p = p
 
+-- All that a caller sees is the outcome of the law. Shut out: any other number, length or byte.
+pub calls : (κs : _) (a : _) (r : _) (s : _) → acknowledge.Post κs a r s
+    → outcome r (now (s .1 .0)) ≡ called (now (a .0)) (now (a .1 .0)) (a .1 .1 .0)
+unfolding Allowed called
+calls κs a r s p = sees (now (a .0)) (now (a .1 .0)) (a .1 .1 .0) r (now (s .1 .0)) p
+  where
+    sees : (i lent : Bytes) (call : Call) (r : Answer) (left : Bytes) → Allowed i lent call r left → outcome r left ≡ called i lent call
+    sees i lent call r left q = rw (q .1, q .0)
+
 module _ (i lent : Bytes) (call : Call) (a : Answer) (left : Bytes) (p : Allowed i lent call a left) where
-  -- 1. A refusal gives its number and the length 0, and every byte of the buffer is as lent.
+  -- 1. A refusal gives its number and the length 0, and every byte of the buffer is as lent. Shut out: refusing everything, a refusal that is
+  -- none of 01's, and one that writes.
   pub refused : (refusal i call ≡ 0 → ⊥)
       → outcome a left ≡ record { number = refusal i call; size = 0; buffer = lent }
   unfolding Allowed answer
   refused h = rw (p .1, p .0, ne-eqb _ 0 h)
 
-  -- 2. Without a refusal the response of document 01 stands at the start of the buffer, with its length, and every byte after it is as lent;
+  -- 2. Without a refusal the response of document 01 stands at the start of the buffer, with its length, and every byte after it is as lent.
+  -- Shut out: doing nothing, and one fixed 997.
   pub answered : refusal i call ≡ 0 → length (response i call) ≤ length lent
       → outcome a left
       ≡ record {
@@ -46,13 +58,13 @@ module _ (i lent : Bytes) (call : Call) (a : Answer) (left : Bytes) (p : Allowed
   unfolding Allowed answer
   answered e fits = rw (p .1, p .0, e, le-leb _ _ fits)
 
-  -- where it does not fit, the number is 14, the length the one that is needed, and the buffer is as lent.
+  -- Where it does not fit, the number is 14, the length the one that is needed, and the buffer is as lent. Shut out: writing what fits.
   pub too-long : refusal i call ≡ 0 → length lent < length (response i call)
       → outcome a left ≡ record { number = 14; size = length (response i call); buffer = lent }
   unfolding Allowed answer
   too-long e h = rw (p .1, p .0, e, lt-leb _ _ h)
 
-  -- an answer with the number 0 is the response
+  -- An answer with the number 0 is the response. Shut out: the number 0 for something else.
   pub is-response : number a ≡ 0 → left ≡ response i call ++ drop (length (response i call)) lent
   unfolding Allowed answer
   is-response e = p .1 ∙ go (eqb (refusal i call) 0) refl (leb (length (response i call)) (length lent)) refl
@@ -73,6 +85,7 @@ inParts i lent call =
     out (delimiters i) (opening i call) ++ joined (blocksIn i) ++ out (delimiters i) (closing i call)
     ++ drop (length (response i call)) lent
 
+-- what stays after two calls, on i and on j, which is i with the sets after
 pub record OneSpoiled (i j : Bytes) (after : List Set) (lent lent′ : Bytes) (call : Call) (a′ : Answer) (left left′ : Bytes) : Type 0 where
   pub answered : number a′ ≡ 0
   pub before : left ≡ inParts i lent call
@@ -80,6 +93,7 @@ pub record OneSpoiled (i j : Bytes) (after : List Set) (lent lent′ : Bytes) (c
       ++ drop (length (response j call)) lent′
   pub stays : Stays i j lent′ after call
 
+-- Demand 3 over what is allowed. Shut out: a damaged set that has the whole interchange refused.
 pub spoiled : (i lent lent′ : Bytes) (call : Call) (a a′ : Answer) (left left′ : Bytes)
     → Allowed i lent call a left → number a ≡ 0
     → (after : List Set) → Damaged (delimiters i) (setsIn i) after → length (rebuilt i after) ≤ 65536

@@ -53,6 +53,7 @@ pub data Chooses : Bytes → Table → Type 0 where
   six : Chooses (ascii "006010") table006010
   four : Chooses (ascii "004010") table004010
 
+-- the group and the set are supported, and have this table
 pub record Supported (gs : Segment) (s : Set) (t : Table) : Type 0 where
   pub gs01 : (field gs 1 ≡ ascii "GF") ⊎ (field gs 1 ≡ ascii "SM")
   pub gs08 : Chooses (take 6 (field gs 8)) t
@@ -106,6 +107,7 @@ table-supported gs s h = go (supported gs) (same (field (s .header) 1) (ascii "9
     go true false p q = absurd (true≢false (rw (p, q) at h))
     go false c p q = absurd (true≢false (rw p at h))
 
+-- A program that has no table for a set that is supported, or the other edition's, is shut out.
 pub supported-table : (gs : Segment) (s : Set) (t : Table) → Supported gs s t → tableIn gs s ≡ some t
 unfolding tableIn setTable same
 supported-table gs s t k = rw (two-names (field gs 1) (k .gs01), k .st01, chooses (k .gs08))
@@ -268,12 +270,12 @@ or-none : (b : Bool) → b || false ≡ b
 or-none true = refl
 or-none false = refl
 
--- Set k of a group is accepted exactly when it is sound after the sets before it. A program that leaves out any of the six tests, or makes
--- one of them of other segments, of another set's ST02 or by another set's report, is not allowed.
+-- Set k of a group, and what is reported of it.
 module _ (d : Delimiters) (g : Group) (k : ℕ) (x : Set) (y : SetReport) (h : k < length (sets g)) where
   abbrev pub setAt : Set
   setAt = getD (sets g) k x
 
+  -- Report k is that of set k. A program that copies a verdict onward, or leaves a set out, is shut out.
   pub report-at : getD (groupReport d g .sets) k y ≡ setReport d (tableIn (g .header) setAt) (before [] k (sets g)) setAt
   unfolding groupReport
   report-at = reports-in-order d (tableIn (g .header)) [] (sets g) k x y h
@@ -282,16 +284,20 @@ module _ (d : Delimiters) (g : Group) (k : ℕ) (x : Set) (y : SetReport) (h : k
   unfolding any
   others = before-member (controlOf setAt) [] (sets g) k ∙ or-none (any (shares setAt) (take k (sets g)))
 
+  -- It is accepted exactly when it is sound after the sets before it. A program that leaves out one of the six tests, or makes it of other
+  -- segments, of another set's ST02 or by another set's report, is shut out.
   pub accepted-exactly : accepted (getD (groupReport d g .sets) k y) ≡ true ↔ Sound d (g .header) (take k (sets g)) setAt
   accepted-exactly = (
     λ e. accepted-sound d (g .header) (take k (sets g)) (before [] k (sets g)) setAt others (ap (λ (r : SetReport). accepted r) (sym report-at) ∙ e),
     λ e. ap (λ (r : SetReport). accepted r) report-at ∙ sound-accepted d (g .header) (take k (sets g)) (before [] k (sets g)) setAt others e,
   )
 
--- 6. The bytes of its AK5 say A exactly when it is accepted: no program writes A and codes, or R and none.
+-- 6. The bytes of AK5.
+-- the AK5 of a set that is accepted
 abbrev pub accepting : Delimiters → Bytes
 accepting d = ascii "AK5" ++ d .element ∷ (ascii "A" ++ d .terminator ∷ [])
 
+-- The bytes of its AK5 say A exactly when a set is accepted. A program that writes A and codes, or R and none, is shut out.
 pub says-A : (d : Delimiters) (r : SetReport) → segmentOut d (ak5 r) ≡ accepting d ↔ accepted r ≡ true
 unfolding ak5 fieldsOut
 says-A d r = (λ e. go (accepted r) refl e, λ e. rw (null-nil (r .codes) e))
@@ -300,7 +306,8 @@ says-A d r = (λ e. go (accepted r) refl e, λ e. rw (null-nil (r .codes) e))
     go true p e = p
     go false p e = let f : _≡_ {A = ℕ} 82 65 = ap (λ (bs : Bytes). getD bs 4 0) (rw p at e) in absurd (omega (arith, f))
 
--- 7. A set has never more than four codes: 1 shuts out 5, and 2 shuts out 3 and 4.
+-- 7. The number of codes.
+-- a test as a number: 1 where it applies
 abbrev weight : Bool → ℕ
 weight true = 1
 weight false = 0
@@ -319,6 +326,7 @@ apart : (b c : Bool) → (b ≡ false) ⊎ (c ≡ false) → weight b + weight c
 apart b c (inl e) = rw e (omega (arith, light c))
 apart b c (inr e) = rw e (omega (arith, light b))
 
+-- Of six rules at most four apply, where the first shuts out the fifth, and the second the third and the fourth.
 module _ (one two three four five last : Bool) (n₁ n₂ n₃ n₄ n₅ n₆ : ℕ) where
   four-of-six : (one ≡ false) ⊎ (five ≡ false) → (two ≡ false) ⊎ (three ≡ false) → (two ≡ false) ⊎ (four ≡ false)
       → length (every ((one ⇒ n₁) ∷ (two ⇒ n₂) ∷ (three ⇒ n₃) ∷ (four ⇒ n₄) ∷ (five ⇒ n₅) ∷ (last ⇒ n₆) ∷ [])) ≤ 4
@@ -342,6 +350,7 @@ module _ (one two three four five last : Bool) (n₁ n₂ n₃ n₄ n₅ n₆ : 
         apart two four r,
       )
 
+-- A set has never more than four codes. A program that gives codes 3 and 4 without a trailer, or 5 without a table, is shut out.
 pub four-codes : (d : Delimiters) (t : Option Table) (controls : List Bytes) (s : Set) → length (setReport d t controls s .codes) ≤ 4
 unfolding setReport setCodes
 four-codes d t controls s = go t (s .trailer) refl
@@ -352,7 +361,7 @@ four-codes d t controls s = go t (s .trailer) refl
     go (some t) none q = rw q (four-of-six _ _ _ _ _ _ _ _ _ _ _ _ (inl refl) (inr refl) (inr refl))
     go (some t) (some se) q = rw q (four-of-six _ _ _ _ _ _ _ _ _ _ _ _ (inl refl) (inl refl) (inl refl))
 
--- 8. AK903 is the number of ST segments of the group: not what GE declares, nor the number of sets that have a trailer.
+-- 8. The number of sets.
 sets-counted : (ss : List Segment) → length (setsOf ss) ≡ length (keep isST ss)
 unfolding setsOf keep
 sets-counted [] = refl
@@ -362,6 +371,7 @@ sets-counted (s ∷ ss) = go (isST s) refl (sets-counted ss)
     go true p e = rw p (ap suc e)
     go false p e = rw p e
 
+-- AK903 is the number of ST segments of the group. A program that takes it from GE01, or counts the sets that have a trailer, is shut out.
 pub received-headers : (d : Delimiters) (g : Group) → field (ak9 (groupReport d g)) 3 ≡ decimal (length (keep isST (g .body)))
 unfolding ak9 groupReport
 received-headers d g = ap decimal (sets-counted (g .body))

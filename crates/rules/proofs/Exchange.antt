@@ -3,6 +3,7 @@ use mathlib.Core.Path.{_≡_, refl}
 use mathlib.Core.List.{List, [], _∷_, _++_}
 use lib.ListN.{length, replicate}
 use Rattle.rules.specs.Base.{Bytes, ascii}
+use Rattle.rules.specs.Refusals.{refusal}
 use Rattle.rules.specs.Response.{response}
 use Rattle.rules.specs.Answers.{Outcome, outcome, answer, buffer}
 use Rattle.rules.specs.Program.{ackPrints}
@@ -10,6 +11,11 @@ use Rattle.rules.specs.declared.Call.{Call}
 use Rattle.rules.proofs.Open.{everything}
 use Prim.Native.Nat.{ℕ}
 
+-- the caller's numbers of the printed exchange
+abbrev pub sampleCall : Call
+sampleCall = record { date = 20240315; time = 930; control = 77 }
+
+-- the interchange of the printed exchange
 pub received : Bytes
 received =
     ascii "ISA*00*          *00*          *ZZ*CARRIERA       *ZZ*BROKERB        *240315*0915*U*00601*000000042*0*T*>~"
@@ -18,6 +24,7 @@ received =
     ++ ascii "ST*990*0002~B1*ABCDE*L101*20241315*Q~L11**CN~SE*3*0002~"
     ++ ascii "GE*2*42~IEA*1*000000042~"
 
+-- its response
 pub sent : Bytes
 sent =
     ascii "ISA*00*          *00*          *ZZ*BROKERB        *ZZ*CARRIERA       *240315*0930*U*00401*000000077*0*T*>~"
@@ -27,9 +34,23 @@ sent =
     ++ ascii "AK3*L11*3**8~AK4*1*127*2~AK5*R*4*5~"
     ++ ascii "AK9*P*2*2*1~SE*14*0001~GE*1*77~IEA*1*000000077~"
 
--- the caller's numbers of the printed exchange
-abbrev pub sampleCall : Call
-sampleCall = record { date = 20240315; time = 930; control = 77 }
+-- The printed interchange is not refused, and its response is the printed one. A program that writes one byte of it otherwise is shut out.
+pub not-refused : refusal received sampleCall ≡ 0
+unfolding everything received
+not-refused = refl
+
+pub responds : response received sampleCall ≡ sent
+unfolding everything received sent
+responds = refl
+
+-- how every response to an interchange with that ISA, that GS and those numbers begins and ends
+unfoldable pub opened : Bytes
+opened =
+    ascii "ISA*00*          *00*          *ZZ*BROKERB        *ZZ*CARRIERA       *240315*0930*U*00401*000000077*0*T*>~"
+    ++ ascii "GS*FA*BROKB*CARRA*20240315*0930*77*X*004010~ST*997*0001~AK1*GF*42~"
+
+unfoldable pub closed : Bytes
+closed = ascii "GE*1*77~IEA*1*000000077~"
 
 -- the outcome of the printed call on a buffer of so many bytes 7
 unfoldable pub exchange : ℕ → Outcome

@@ -19,6 +19,7 @@ use Rattle.rules.proofs.Damage.{response-parts}
 use Rattle.rules.proofs.Accepting.{Sound, accepting, says-A, accepted-exactly}
 
 -- 1. A block is AK2 with its notes, and then AK5.
+-- the bytes of a block before its AK5
 abbrev pub headingOf : Delimiters → SetReport → Bytes
 headingOf d r = out d (ak2 r ∷ ak3s (r .notes))
 
@@ -58,7 +59,8 @@ module _ (i : Bytes) (call : Call) (k : ℕ) where
   block-at y h =
       map-at (λ r. out (delimiters i) (block r)) (reportIn i .sets) k y [] (rw (every-reported (delimiters i) (groupIn i)) h)
 
-  -- the response is: what stands before block k, AK2 and the notes of set k, its AK5, and what stands after
+  -- The response is: what stands before block k, AK2 and the notes of set k, its AK5, and what stands after. A program that puts a block in
+  -- another's place, or an AK5 before its notes, is shut out.
   pub response-at : (y : SetReport) → k < length (setsIn i)
       → let r = getD (reportIn i .sets) k y in
       response i call ≡ upTo ++ headingOf (delimiters i) r ++ segmentOut (delimiters i) (ak5 r) ++ beyond
@@ -67,7 +69,7 @@ module _ (i : Bytes) (call : Call) (k : ℕ) where
       response-parts i call
       ∙ rw (joined-at (blocksIn i) k (rw blocks-counted h), block-at y h, block-parts (delimiters i) r) (simp append-assoc)
 
-  -- The AK5 of set k says A exactly when the set is sound.
+  -- The AK5 of set k says A exactly when the set is sound. A program that writes the verdict of another set there is shut out.
   pub says-exactly : (x : Set) (y : SetReport) → k < length (setsIn i)
       → segmentOut (delimiters i) (ak5 (getD (reportIn i .sets) k y)) ≡ accepting (delimiters i)
       ↔ Sound (delimiters i) (groupIn i .header) (take k (setsIn i)) (getD (setsIn i) k x)
