@@ -3,6 +3,8 @@ ghost use Prim.Native.Nat.{_≤_};
 ghost use mathlib.Core.Path.{_≡_};
 ghost use lib.ListN.{length};
 ghost use Rattle.io.specs.Counts.{Counts};
+ghost use Rattle.rules.specs.Program.{ackPrints};
+ghost use Rattle.writing.specs.Over.{over};
 ghost use Rattle.exchange.specs.Deciding.{deciding};
 use libc::STDERR_FILENO;
 use libc::STDIN_FILENO;
@@ -46,12 +48,20 @@ fn read_input(input: &mut [u8]) -> Reading
     }
 }
 
-// Writes the answer to an input, and says whether all of it was written. The output is the room for a response.
+// Prints the answer to an input, and says whether all of it was written. Only what the law says of the input may be lent.
+fn print(input: &[u8], answer: &[u8]) -> bool
+    requires { ⌜ now answer ≡ ackPrints (now input) ⌝ }
+{
+    io::write_all(STDOUT_FILENO, answer)
+}
+
+// Answers an input and prints that, and says whether all of it was written. The output is the room for a response; the answer is left in it.
 fn write_answer(input: &[u8], output: &mut [u8]) -> bool
     requires { ⌜ length (now output) ≡ 65536 ⌝ }
+    ensures { λ _. ⌜ now (output .exit) ≡ over (ackPrints (now (input .entry))) (now (output .entry)) ⌝ }
 {
     let length = exchange::exchange(input, output);
-    io::write_all(STDOUT_FILENO, &output[..length])
+    print(input, &output[..length])
 }
 
 fn main() {

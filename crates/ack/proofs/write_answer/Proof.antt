@@ -1,37 +1,43 @@
--- `ack::write_answer` meets its contract: what is printed lies within the output.
+-- `ack::write_answer` meets its contract: what is printed lies within the output, and is the answer to the input.
 use mathlib.Core.Path.{sym}
 use native.Mathlib.Omega.{arith}
 use borrow.Author.Needs.{needs}
+use denote.Ref.{now}
 use lib.Seq.{length-take-le}
 use Rattle.exchange.proofs.Laws.{holds}
+use Rattle.ack.proofs.Answered.{left-is, starts}
 use Rattle.ack.proofs.write_answer.Statement.{statement}
 use Rattle.ack.proofs.write_answer.Tie as tie
 
 exchange-requires : tie.Need-exchange-requires
 exchange-requires c κs = search needs
 
-slice-reshare-prefix-write-all : tie.Need-slice-reshare-prefix-write-all
-slice-reshare-prefix-write-all c = omega (arith, holds _ _ (c .before .before .exchange .ensures .0) (omega arith))
+slice-reshare-prefix-print : tie.Need-slice-reshare-prefix-print
+slice-reshare-prefix-print c = omega (arith, holds _ _ (c .before .before .exchange .ensures .0) (omega arith))
 
-slice-aggregate-write-all : tie.Need-slice-aggregate-write-all
-slice-aggregate-write-all c = sym (length-take-le _ _ (slice-reshare-prefix-write-all (c .before)))
+slice-aggregate-print : tie.Need-slice-aggregate-print
+slice-aggregate-print c = sym (length-take-le _ _ (slice-reshare-prefix-print (c .before)))
 
-write-all-requires : tie.Need-write-all-requires
-write-all-requires c κs = search needs
+print-requires : tie.Need-print-requires
+print-requires c κs =
+    let e = c .before .before .before .exchange .ensures in
+    starts _ (now (c .before .before .before .before .before .before .before .args .output)) (e .0) (e .1) (search needs)
 
 same-length : tie.Need-same-length
 same-length c = search needs
 
 returns : tie.Need-returns
-returns c = search needs
+returns c =
+    let e = c .before .before .before .before .exchange .ensures in
+    left-is _ _ (e .0) (e .1) (search needs)
 
 pub write-answer-spec : {M : Type 1} → statement M
 write-answer-spec =
     tie.close
     (tie.spec
     exchange-requires
-    slice-reshare-prefix-write-all
-    slice-aggregate-write-all
-    write-all-requires
+    slice-reshare-prefix-print
+    slice-aggregate-print
+    print-requires
     same-length
     returns)
