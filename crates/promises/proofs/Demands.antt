@@ -20,11 +20,12 @@ use Rattle.rules.specs.declared.Answer.{Answer}
 use Rattle.rules.proofs.Damage.{response-parts, one-spoiled}
 use Rattle.acknowledgment.proofs.acknowledge.Reads as acknowledge
 
--- 0. The contract of the code, read off it: nothing is asked of a caller, and what comes back is allowed. Shut out: a `requires`, by which a
--- call would go without an answer, and a weaker `ensures`.
+-- 0. The contract of the code, read off it.
+-- Nothing is asked of a caller. Shut out: a `requires`, by which a call would go without an answer.
 pub asks-nothing : (κs : _) (a : _) → acknowledge.Pre κs a
 asks-nothing κs a = tt
 
+-- What comes back is allowed. Shut out: a weaker `ensures`.
 pub allows : (κs : _) (a : _) (r : _) (s : _) → acknowledge.Post κs a r s
     → Allowed (now (a .0)) (now (a .1 .0)) (a .1 .1 .0) r (now (s .1 .0))
 allows κs a r s p = p

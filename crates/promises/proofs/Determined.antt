@@ -1,5 +1,6 @@
 -- Every public function is determined: two outcomes that its contract allows for the same arguments coincide. A contract is read off the code
--- (`Reads.Post`): of the arguments, the result and what is lent at the exit.
+-- (`Reads.Post`): of the arguments, the result and what is lent at the exit. Of each function any program is shut out that has another outcome
+-- than this one on any input, and a `requires`, by which a call would go without an outcome.
 use mathlib.Core.Path.{_≡_, sym, ap, _∙_}
 use mathlib.Core.List.{List}
 use Prim.Native.Nat.{ℕ}

@@ -28,11 +28,14 @@ use Rattle.acknowledgment.proofs.x12_acknowledge.Reads as x12-acknowledge
 
 -- what the law promises of the outcome o of a call on the interchange i and the buffer lent
 pub record Promised (i lent : Bytes) (call : Call) (o : Outcome) : Type 0 where
-  -- a refusal gives its number and the length 0, and every byte of the buffer is as lent
+  -- a refusal gives its number and the length 0, and every byte of the buffer is as lent: shut out are refusing everything, and a refusal that
+  -- is none of 01's
   pub refused : (refusal i call ≡ 0 → ⊥) → o ≡ record { number = refusal i call; size = 0; buffer = lent }
-  -- without one the response stands at the start of the buffer, with its length, and every byte after it is as lent
+  -- without one the response stands at the start of the buffer, with its length, and every byte after it is as lent: shut out are doing
+  -- nothing, and one fixed 997
   pub answered : refusal i call ≡ 0 → length (response i call) ≤ length lent → o ≡ holding (response i call) lent
-  -- where it does not fit, the number is 14, the length the one that is needed, and the buffer as lent
+  -- where it does not fit, the number is 14, the length the one that is needed, and the buffer as lent: shut out is a program that writes what
+  -- fits
   pub too-long : refusal i call ≡ 0 → length lent < length (response i call)
       → o ≡ record { number = 14; size = length (response i call); buffer = lent }
   -- a number other than 0 leaves the buffer as lent: shut out is a program that writes first and finds the fault afterwards
@@ -46,13 +49,14 @@ pub record Promised (i lent : Bytes) (call : Call) (o : Outcome) : Type 0 where
   pub sets : o .number ≡ 0 → (k : ℕ) (x : Set) (y : SetReport) → k < length (setsIn i) → Tells i lent call k x y (o .buffer)
   -- an answer says in AK903 how many ST segments the group has: shut out is AK903 from thin air
   pub counts : o .number ≡ 0 → Counts i lent call (o .buffer)
-  -- P1 to P12: row k of their table is answered, and its whole response stands at the start of the buffer
+  -- P1 to P12: row k of their table is answered, and its whole response stands at the start of the buffer: shut out is a program that draws one
+  -- of these lines elsewhere
   pub marked : (m : Marked) (k : ℕ) → k < length marked → i ≡ receivedFor (getD marked k m) → call ≡ sampleCall
       → length (sentFor (getD marked k m)) ≤ length lent → o ≡ holding (sentFor (getD marked k m)) lent
-  -- what is tempting and wrong, and the verdicts of a group
+  -- what is tempting and wrong, and the verdicts of a group: shut out are the four programs that 01 names so
   pub groups : (g : Group) (k : ℕ) → k < length groups → i ≡ receivedIn (getD groups k g) → call ≡ sampleCall
       → length (sentIn (getD groups k g)) ≤ length lent → o ≡ holding (sentIn (getD groups k g)) lent
-  -- the printed exchange
+  -- the printed exchange, in a buffer that holds it and in one that does not: shut out is a program that knows it by the buffer's length
   pub exchange : i ≡ received → call ≡ sampleCall → length sent ≤ length lent → o ≡ holding sent lent
   pub exchange-too-long : i ≡ received → call ≡ sampleCall → length lent < length sent
       → o ≡ record { number = 14; size = length sent; buffer = lent }
@@ -85,12 +89,12 @@ module _ (i lent : Bytes) (call : Call) (o : Outcome) (p : o ≡ called i lent c
     exchange-too-long = λ e f h. onto e f ∙ shown.exchange-too-long lent h;
   }
 
--- The Rattle function,
+-- All of it holds of the Rattle function,
 pub acknowledge-promised : (κs : _) (a : _) (r : _) (s : _) → acknowledge.Post κs a r s
     → Promised (now (a .0)) (now (a .1 .0)) (a .1 .1 .0) (outcome r (now (s .1 .0)))
 acknowledge-promised κs a r s p = promised (now (a .0)) (now (a .1 .0)) (a .1 .1 .0) (outcome r (now (s .1 .0))) (calls κs a r s p)
 
--- and the face for C.
+-- and of the face for C. Shut out: a face that returns another number or stores another length.
 pub x12-acknowledge-promised : (κs : _) (a : _) (r : _) (s : _) → x12-acknowledge.Post κs a r s
     → Promised (now (a .0)) (now (a .1 .0)) (callOf (a .1 .1 .0) (a .1 .1 .1 .0) (a .1 .1 .1 .1 .0))
     (record { number = r; size = now (s .1 .1 .1 .1 .1 .0); buffer = now (s .1 .0) })

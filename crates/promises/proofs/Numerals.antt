@@ -31,7 +31,7 @@ digits-value (suc f) n h =
     go true left = omega arith
     go false left = value-append 0 (digitsOf f (n / 10)) (48 + n % 10) ∙ omega (arith, left)
 
--- it is never empty
+-- A number that we write is never empty. A program that writes nothing for 0 is shut out.
 pub decimal-some : (n : ℕ) → null (decimal n) ≡ false
 unfolding decimal digitsOf
 decimal-some n = either (λ (bs : Bytes). null bs ≡ false) (ltb n 10) refl (append-some (digitsOf 18 (n / 10)) (48 + n % 10))

@@ -253,7 +253,7 @@ acknowledge-spared κs a r s p e choice f κs′ a′ r′ s′ q same-bytes sam
     spared (calls κs a r s p) e choice f (now (a′ .0)) same-bytes
     (calls κs′ a′ r′ s′ q ∙ ap (called (now (a′ .0)) (now (a′ .1 .0))) same-call, short, fits)
 
--- and of the face for C.
+-- Two calls of the face for C. Shut out: the same programs behind it.
 pub x12-acknowledge-spared : (κs : _) (a : _) (r : _) (s : _) → x12-acknowledge.Post κs a r s → r ≡ 0
     → (choice : Choice) → ((k : ℕ) → Fills (delimiters (now (a .0))) (choice k))
     → (κs′ : _) (a′ : _) (r′ : _) (s′ : _) → x12-acknowledge.Post κs′ a′ r′ s′ → now (a′ .0) ≡ replaced (now (a .0)) choice

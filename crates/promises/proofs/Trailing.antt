@@ -195,6 +195,7 @@ gs06-filled d gs e =
     let gs07 = text d 1 2 (field gs 7) in
     digits-filled (field gs 6) (and-right before gs06 (and-left (before && gs06) gs07 (and-left (before && gs06 && gs07) (text d 1 12 (field gs 8)) e)))
 
+-- A refusal that lets an empty GS06 or ST02 pass is shut out.
 pub answered-filled : (i : Bytes) (call : Call) → refusal i call ≡ 0 → Filled (reportIn i)
 unfolding refusal refusalRules callRules headRules endRules envelopeRules trailerRules groupRules headerRules answerRules setRules groupReport
 answered-filled i call e =
@@ -208,6 +209,7 @@ answered-filled i call e =
           (not-false (all (λ s. goodST d (s .header)) (sets g)) (r .1 .1 .1 .1 .1 .1 .1 .1 .1 .1 .1 .1 .1 .1 .0));
     }
 
--- Every segment of the response to an interchange that is not refused ends with a filled element.
+-- Every segment of the response to an interchange that is not refused ends with a filled element. A program that writes a separator for an
+-- element that is not there is shut out.
 pub response-trim : (i : Bytes) (call : Call) → refusal i call ≡ 0 → all isTrim (respond i (groupIn i) call) ≡ true
 response-trim i call e = respond-trim i (groupIn i) call (answered-filled i call e)
