@@ -6,6 +6,7 @@ ghost use Rattle.io.specs.Counts.{Counts};
 ghost use Rattle.rules.specs.Program.{ackPrints};
 ghost use Rattle.writing.specs.Over.{over};
 ghost use Rattle.exchange.specs.Deciding.{deciding};
+ghost use Rattle.ack.specs.Serving.{Serves};
 use libc::STDERR_FILENO;
 use libc::STDIN_FILENO;
 use libc::STDOUT_FILENO;
@@ -64,16 +65,40 @@ fn write_answer(input: &[u8], output: &mut [u8]) -> bool
     print(input, &output[..length])
 }
 
+// What came of an exchange: the answer to so many bytes was printed, or not all of it; or the input could not be read.
+enum Served {
+    Printed(usize),
+    Unprinted(usize),
+    Unread,
+}
+
+// Reads an input and prints the answer to it. An input that can't be read gets none.
+fn serve(input: &mut [u8], output: &mut [u8]) -> Served
+    requires { ⌜ deciding ≤ length (now input) ⌝ }
+    requires { ⌜ length (now output) ≡ 65536 ⌝ }
+    ensures { λ r. ⌜ Serves r (now (input .exit)) (now (output .entry)) (now (output .exit)) ⌝ }
+{
+    let reading = read_input(input);
+    if reading.failed {
+        return Served::Unread;
+    }
+    let n = reading.count;
+    if !write_answer(&input[..n], output) {
+        return Served::Unprinted(n);
+    }
+    Served::Printed(n)
+}
+
 fn main() {
     let mut input: [u8; MOST] = [0; MOST];
     let mut output: [u8; ROOM] = [0; ROOM];
-    let reading = read_input(&mut input);
-    if reading.failed {
-        io::write_all(STDERR_FILENO, b"ack: cannot read standard input\n");
-        return;
-    }
-    let n = reading.count;
-    if !write_answer(&input[..n], &mut output) {
-        io::write_all(STDERR_FILENO, b"ack: cannot write standard output\n");
+    match serve(&mut input, &mut output) {
+        Served::Printed(_) => {}
+        Served::Unprinted(_) => {
+            io::write_all(STDERR_FILENO, b"ack: cannot write standard output\n");
+        }
+        Served::Unread => {
+            io::write_all(STDERR_FILENO, b"ack: cannot read standard input\n");
+        }
     }
 }

@@ -6,9 +6,10 @@ use Prim.Native.Nat.{ℕ, _≤_, _<_}
 use denote.Ref.{now}
 use lib.ListN.{length, drop, getD}
 use Rattle.rules.specs.Base.{Bytes, all}
+use Rattle.rules.specs.Cutting.{delimiters}
 use Rattle.rules.specs.Sets.{Set, SetReport}
 use Rattle.rules.specs.Refusals.{refusal}
-use Rattle.rules.specs.Response.{respond, response}
+use Rattle.rules.specs.Response.{out, respond, response}
 use Rattle.rules.specs.Answers.{Outcome, outcome, called}
 use Rattle.rules.specs.Damage.{groupIn, setsIn}
 use Rattle.rules.specs.declared.Call.{Call}
@@ -40,9 +41,11 @@ pub record Promised (i lent : Bytes) (call : Call) (o : Outcome) : Type 0 where
       → o ≡ record { number = 14; size = length (response i call); buffer = lent }
   -- a number other than 0 leaves the buffer as lent: shut out is a program that writes first and finds the fault afterwards
   pub untouched : (o .number ≡ 0 → ⊥) → o .buffer ≡ lent
-  -- an answer is segments of which none ends with an empty element: shut out is a writer that leaves separators at an end
+  -- an answer is the segments of the law, in bytes, and then what was lent: shut out is a segment too few, too many or at another place
+  pub segments : o .number ≡ 0 → o .buffer ≡ out (delimiters i) (respond i (groupIn i) call) ++ drop (length (response i call)) lent
+  -- none of them ends with an empty element: shut out is a writer that leaves separators at an end
   pub trim : o .number ≡ 0 → all isTrim (respond i (groupIn i) call) ≡ true
-  -- an answer has no AK4 with the code 9 or 10: shut out is a program that tells of a bad date by 9
+  -- none of them is an AK4 with the code 9 or 10: shut out is a program that tells of a bad date by 9
   pub unused : o .number ≡ 0 → all isSpared (respond i (groupIn i) call) ≡ true
   -- an answer has the block of set k in its place, and its AK5 says A exactly when the set is sound: shut out are "accepted" for all, the first
   -- set's verdict for each, and a test left out
@@ -73,12 +76,17 @@ module _ (i lent : Bytes) (call : Call) (o : Outcome) (p : o ≡ called i lent c
   left-is : o .number ≡ 0 → o .buffer ≡ response i call ++ drop (length (response i call)) lent
   left-is e = ap (λ (o : Outcome). o .buffer) (p ∙ shown.answered i lent call (wrote e .0) (wrote e .1))
 
+  written-out : o .number ≡ 0 → o .buffer ≡ out (delimiters i) (respond i (groupIn i) call) ++ drop (length (response i call)) lent
+  unfolding response
+  written-out = left-is
+
   promised : Promised i lent call o
   promised = record {
     refused = λ h. p ∙ shown.refused i lent call h;
     answered = λ e fits. p ∙ shown.answered i lent call e fits;
     too-long = λ e h. p ∙ shown.too-long i lent call e h;
     untouched = λ h. ap (λ (o : Outcome). o .buffer) p ∙ shown.untouched i lent call (λ e. h (ap (λ (o : Outcome). o .number) p ∙ e));
+    segments = written-out;
     trim = λ e. response-trim i call (wrote e .0);
     unused = λ e. respond-spared i (groupIn i) call;
     sets = λ e. tells i lent call (o .buffer) (left-is e);

@@ -2,30 +2,30 @@
 use mathlib.Core.Path.{_≡_, refl, sym, _∙_, ap, subst}
 use mathlib.Core.Bool.{Bool, true, false, _&&_, not, false≢true}
 use mathlib.Core.List.{List, [], _∷_, _++_, map, append-nil, append-assoc}
-use mathlib.Core.Option.{Option, none, some}
+use mathlib.Core.Option.{Option}
 use Prim.Native.Nat.{ℕ, zero, suc, _+_, _≤_}
 use native.Mathlib.Omega.{arith}
-use borrow.Author.Tests.{le-leb, eqb-true, leb-false}
-use lib.Dec.{eqb, leb}
+use borrow.Author.Tests.{le-leb, eqb-true}
+use lib.Dec.{eqb}
 use lib.ListN.{length, take, drop, getD, take-append-drop, length-append}
 use lib.Seq.{take-at, length-take-le}
-use Rattle.rules.specs.Base.{Bytes, ascii, same, all, null, last, listed, between, first, _⇒_}
+use Rattle.rules.specs.Base.{Bytes, ascii, all, null, last, listed, between, first, _⇒_}
 use Rattle.rules.specs.Cutting.{Segment, isNamed, delimiters, isa, pieces, segments}
 use Rattle.rules.specs.Sets.{Set, controlOf, setReport, SetReport}
 use Rattle.rules.specs.Tables.{Table}
-use Rattle.rules.specs.Groups.{Group, groupOf, isGE, sets, tableIn, setReports, groupCodes, groupReport}
-use Rattle.rules.specs.Refusals.{callRules, hasISA, goodST, headRules, endRules, enveloped, envelopeRules, trailerRules, setRules, groupRules, refusalRules, refusal}
-use Rattle.rules.specs.Response.{fieldsOut, segmentOut, out, block, blocks, ak1, ak9, seOut, told, transactionSet, isaOut, gsOut, geOut, ieaOut, respond, response}
+use Rattle.rules.specs.Groups.{groupOf, isGE, sets, tableIn, setReports, groupCodes, groupReport}
+use Rattle.rules.specs.Refusals.{hasISA, goodST, headRules, endRules, enveloped, envelopeRules, trailerRules, setRules, groupRules, refusalRules, refusal}
+use Rattle.rules.specs.Response.{fieldsOut, segmentOut, out, block, blocks, ak1, ak9, seOut, told, transactionSet, geOut, ieaOut, respond, response}
 use Rattle.rules.specs.Answers.{answer, number, buffer}
-use Rattle.rules.specs.Damage.{isWhole, isInner, isFilling, Damaged, done, kept, spoiled, refilled, groupIn, setsIn, flat, rebuilt, reportIn, blocksIn, opening, closing, joined, bufferAfter, Stays}
+use Rattle.rules.specs.Damage.{isWhole, isInner, isFilling, Damaged, done, kept, spoiled, refilled, groupIn, setsIn, flat, rebuilt, reportIn, blocksIn, opening, closing, joined, Stays}
 use Rattle.rules.specs.declared.Call.{Call}
 use Rattle.rules.specs.declared.Answer.{Answer}
 use Rattle.rules.specs.declared.Answer.the-variants.{Written}
 use Rattle.rules.specs.declared.Delimiters.{Delimiters}
 use Rattle.rules.proofs.Logic.{and-left, and-right, all-head, all-tail, all-cons, all-append, all-left, all-right, all-weaken, last-snoc}
 use Rattle.rules.proofs.Cuts.{segments-out, segments-whole, out-segments, out-append}
-use Rattle.rules.proofs.SetLaws.{isOuter, Optional, Sets, no-set, more, sets-flat, outer-flat, outside-flat}
-use Rattle.rules.proofs.Envelope.{delimiters-head, hasISA-head, isa-head, Header, Clear, clear, Answered, made, first-cut, first-segment, rest-cut, around, group-around, last-around}
+use Rattle.rules.proofs.SetLaws.{Optional, Sets, no-set, more, sets-flat, outer-flat, outside-flat}
+use Rattle.rules.proofs.Envelope.{delimiters-head, hasISA-head, isa-head, Clear, clear, made, first-cut, first-segment, rest-cut, around, group-around, last-around}
 
 -- 1. What damage leaves alone.
 module _ (d : Delimiters) where

@@ -2,26 +2,26 @@
 use mathlib.Core.Path.{_≡_, refl, sym, _∙_, ap}
 use mathlib.Core.Bool.{Bool, true, false, _&&_, _||_, not, false≢true}
 use mathlib.Core.List.{List, [], _∷_, _++_, append-nil, append-assoc}
-use mathlib.Core.Option.{Option, none, some}
+use mathlib.Core.Option.{Option}
 use Prim.Native.Nat.{ℕ, suc, _+_, _≤_, _<_}
 use native.Mathlib.Omega.{arith}
 use native.Mathlib.Numerals.{add-one}
 use borrow.Author.Tests.{not-true, not-false, eqb-true, leb-true, ltb-true}
-use lib.Dec.{T, eqb, ltb, leb, ltb→lt, leb→le, lit<, lit≤}
+use lib.Dec.{eqb, ltb, leb, lit<, lit≤}
 use lib.ListN.{length, take, drop, getD, take-append-drop, length-take}
 use lib.Seq.{slice, slice-empty, split-at, take-suc, getD-take, take-take, drop-append-le}
-use Rattle.rules.specs.Base.{Bytes, ascii, same, member, between, all, any, front, last, listed, first, if_then_else_}
+use Rattle.rules.specs.Base.{Bytes, ascii, same, member, between, all, any, front, last, listed, first}
 use Rattle.rules.specs.Cutting.{Segment, field, isNamed, delimiters, marks, separators, valid, fieldsAt, isa, segments, split}
 use Rattle.rules.specs.Numbers.{digits}
-use Rattle.rules.specs.Sets.{Set, isST, setsOf, outside}
-use Rattle.rules.specs.Groups.{Group, groupOf, groupWith, isGE, sets}
-use Rattle.rules.specs.Refusals.{callRules, hasISA, plain, distinct, goodMarks, goodISA, headRules, endRules, isEnvelope, enveloped, envelopeRules, trailerRules, headerRules, answerRules, setRules, groupRules, refusalRules, refusal}
+use Rattle.rules.specs.Sets.{Set, outside}
+use Rattle.rules.specs.Groups.{groupOf, groupWith, isGE, sets}
+use Rattle.rules.specs.Refusals.{callRules, hasISA, plain, distinct, goodMarks, goodISA, headRules, endRules, enveloped, envelopeRules, trailerRules, headerRules, answerRules, setRules, groupRules, refusalRules, refusal}
 use Rattle.rules.specs.Damage.{flat, free}
 use Rattle.rules.specs.declared.Call.{Call}
 use Rattle.rules.specs.declared.Delimiters.{Delimiters}
-use Rattle.rules.proofs.Logic.{and-left, and-right, or-left, or-right, both-left, both-right, all-head, all-tail, all-cons, all-append, all-weaken, same→eq, front-last, front-snoc, last-snoc, last-all, silent}
+use Rattle.rules.proofs.Logic.{and-left, and-right, or-left, or-right, all-head, all-tail, all-cons, all-append, all-weaken, same→eq, front-last, front-snoc, last-snoc, last-all, silent}
 use Rattle.rules.proofs.Cuts.{pieces-step}
-use Rattle.rules.proofs.SetLaws.{isOuter, Optional, missing, there, Sets, sets-cut, flat-sets, sets-flat, outer-flat, outside-flat}
+use Rattle.rules.proofs.SetLaws.{isOuter, Optional, missing, there, Sets, sets-cut, flat-sets, outer-flat}
 
 -- 1. What is read of ISA lies in its 106 bytes.
 separators-low : all (λ a. ltb a 106) separators ≡ true

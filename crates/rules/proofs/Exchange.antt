@@ -1,7 +1,7 @@
 -- The exchange that document 01 prints: what the definitions answer is what it prints.
 use mathlib.Core.Path.{_≡_, refl}
-use mathlib.Core.List.{List, [], _∷_, _++_}
-use lib.ListN.{length, replicate}
+use mathlib.Core.List.{_++_}
+use lib.ListN.{replicate}
 use Rattle.rules.specs.Base.{Bytes, ascii}
 use Rattle.rules.specs.Refusals.{refusal}
 use Rattle.rules.specs.Response.{response}

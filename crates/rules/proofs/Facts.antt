@@ -3,21 +3,20 @@ use mathlib.Core.Path.{_≡_, refl, sym, _∙_, ap}
 use mathlib.Core.Bool.{Bool, true, false, _&&_, false≢true}
 use mathlib.Core.List.{List, [], _∷_, _++_, map, append-nil, append-assoc}
 use mathlib.Core.Option.{Option}
-use Prim.Native.Nat.{ℕ, zero, suc, _+_, _≤_}
+use Prim.Native.Nat.{ℕ, suc, _+_, _≤_}
 use native.Mathlib.Omega.{arith}
-use native.Mathlib.Numerals.{add-one}
 use borrow.Author.Tests.{leb-true}
 use lib.Dec.{T, leb, eqb}
 use lib.ListN.{length, length-append}
-use Rattle.rules.specs.Base.{Bytes, ascii, null, same, all, keep, last, Rule, _⇒_, first, if_then_else_}
-use Rattle.rules.specs.Cutting.{Segment, field, delimiters, isa, segments}
+use Rattle.rules.specs.Base.{Bytes, ascii, null, same, last, Rule, _⇒_, first, if_then_else_}
+use Rattle.rules.specs.Cutting.{field, delimiters, isa, segments}
 use Rattle.rules.specs.Numbers.{decimal}
-use Rattle.rules.specs.Sets.{Set, controlOf, setReport, SetReport, accepted}
+use Rattle.rules.specs.Sets.{Set, controlOf, SetReport, accepted}
 use Rattle.rules.specs.Tables.{Table}
 use Rattle.rules.specs.Groups.{Group, groupOf, sets, tableIn, setReports, acceptedIn, GroupReport, groupReport}
 use Rattle.rules.specs.Refusals.{callRules, headRules, endRules, envelopeRules, trailerRules, headerRules, answerRules, setRules, groupRules, refusalRules, refusal}
-use Rattle.rules.specs.Response.{ak5, seOut, told, transactionSet}
-use Rattle.rules.specs.Answers.{Allowed, answer, buffer, outcome}
+use Rattle.rules.specs.Response.{seOut, told, transactionSet}
+use Rattle.rules.specs.Answers.{Allowed, outcome}
 use Rattle.rules.specs.declared.Call.{Call}
 use Rattle.rules.specs.declared.Answer.{Answer}
 use Rattle.rules.specs.declared.Delimiters.{Delimiters}
