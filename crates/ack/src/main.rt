@@ -6,7 +6,7 @@ ghost use Rattle.io.specs.Counts.{Counts};
 ghost use Rattle.rules.specs.Program.{ackPrints};
 ghost use Rattle.writing.specs.Over.{over};
 ghost use Rattle.exchange.specs.Deciding.{deciding};
-ghost use Rattle.ack.specs.Serving.{Serves};
+ghost use Rattle.ack.specs.Serving.{room, Serves};
 use libc::STDERR_FILENO;
 use libc::STDIN_FILENO;
 use libc::STDOUT_FILENO;
@@ -58,7 +58,7 @@ fn print(input: &[u8], answer: &[u8]) -> bool
 
 // Answers an input and prints that, and says whether all of it was written. The output is the room for a response; the answer is left in it.
 fn write_answer(input: &[u8], output: &mut [u8]) -> bool
-    requires { ⌜ length (now output) ≡ 65536 ⌝ }
+    requires { ⌜ length (now output) ≡ room ⌝ }
     ensures { λ _. ⌜ now (output .exit) ≡ over (ackPrints (now (input .entry))) (now (output .entry)) ⌝ }
 {
     let length = exchange::exchange(input, output);
@@ -75,7 +75,7 @@ enum Served {
 // Reads an input and prints the answer to it. An input that can't be read gets none.
 fn serve(input: &mut [u8], output: &mut [u8]) -> Served
     requires { ⌜ deciding ≤ length (now input) ⌝ }
-    requires { ⌜ length (now output) ≡ 65536 ⌝ }
+    requires { ⌜ length (now output) ≡ room ⌝ }
     ensures { λ r. ⌜ Serves r (now (input .exit)) (now (output .entry)) (now (output .exit)) ⌝ }
 {
     let reading = read_input(input);
