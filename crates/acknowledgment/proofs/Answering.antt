@@ -3,24 +3,25 @@ use mathlib.Core.Path.{_≡_, refl, _∙_}
 use Prim.Native.Nat.{ℕ, _≤_, _<_}
 use mathlib.Core.List.{List}
 use native.Mathlib.Omega.{arith}
-use borrow.Author.Tests.{ne-eqb, le-leb, lt-leb, not-false, leb-true}
-use lib.Dec.{leb}
+use borrow.Author.Tests.{ne-eqb, le-leb, lt-leb, not-true, not-false, leb-true}
+use lib.Dec.{eqb, leb}
 use lib.ListN.{length}
-use Rattle.rules.specs.Base.{Bytes}
-use Rattle.rules.specs.Cutting.{delimiters, split}
-use Rattle.rules.specs.Refusals.{headRules, refusal}
+use mathlib.Core.Bool.{false, _||_, not}
+use Rattle.rules.specs.Base.{Bytes, any}
+use Rattle.rules.specs.Cutting.{delimiters, marks, split}
+use Rattle.rules.specs.Refusals.{distinct, goodMarks, headRules, refusal}
 use Rattle.rules.specs.Response.{response}
 use Rattle.rules.specs.Answers.{fitting, answer, buffer, outcome, Allowed, called}
 use Rattle.rules.specs.declared.Call.{Call}
 use Rattle.rules.specs.declared.Answer.{Answer}
 use Rattle.rules.specs.declared.Answer.the-variants.{Written, Refused, TooLong}
 use Rattle.rules.specs.declared.Delimiters.{Delimiters}
-use Rattle.rules.proofs.Logic.{and-right, silent}
+use Rattle.rules.proofs.Logic.{and-left, and-right, or-left, or-right, silent}
 use Rattle.tables.specs.Reading.{Guide}
 use Rattle.guides.specs.Encoded.{directoryRows}
 use Rattle.guides.specs.Choice.{scopeIn}
 use Rattle.guides.specs.declared.Scope.{Scope}
-use Rattle.guides.proofs.Chosen.{allRows, table-chosen, table-stands}
+use Rattle.guides.proofs.Chosen.{allRows, table-chosen, table-stands, table-orderly}
 use Rattle.text.specs.Text.{part}
 use Rattle.envelope.specs.declared.GroupAt.{GroupAt}
 use Rattle.envelope.proofs.Laws.{GroupIs}
@@ -57,6 +58,15 @@ short-of i u =
     let long = silent (headRules i) tt (u .head) .0 in
     leb-true (length i) 65536 (and-right (leb 106 (length i)) (leb (length i) 65536) (not-false _ long))
 
+-- its separator is not its terminator
+apart-of : (i : Bytes) → Unrefused i → eqb (delimiters i .element) (delimiters i .terminator) ≡ false
+unfolding headRules goodMarks distinct marks any
+apart-of i u =
+    let d = delimiters i in
+    let good = not-false _ (silent (headRules i) tt (u .head) .1 .1 .0) in
+    let apart = not-true (eqb (d .element) (d .component) || (eqb (d .element) (d .terminator) || false)) (and-left (not (eqb (d .element) (d .component) || (eqb (d .element) (d .terminator) || false))) _ (and-left (distinct (marks d)) _ good)) in
+    or-left (eqb (d .element) (d .terminator)) false (or-right (eqb (d .element) (d .component)) _ apart)
+
 -- with the directory and the rows of document 01 and the scope of its GS it has all that the writer asks for
 pub answerable : (i : Bytes) (call : Call) {d : Delimiters} {f : GroupAt} {ids : List (List ℕ)} {rows : Guide} {scope : Scope}
     → (refusal i call ≡ 0) × ((d ≡ delimiters i) × GroupIs d i f) → ids ≡ directoryRows → rows ≡ allRows
@@ -68,8 +78,10 @@ answerable i call (e, (q, w)) p r s =
       place = w;
       passed = passed _ _ (rw (← q, w .group) at (u .sets));
       short = short-of i u;
+      apart = rw q (apart-of i u);
       scoped = s;
       tables = rw (r, s) (table-stands _);
+      ordered = rw (p, r, s) (table-orderly _);
       table = rw (p, r, s) (table-chosen _);
     }
 

@@ -1,7 +1,7 @@
 -- The block of a set: its notes, its codes and its segments, as written, are those that document 01 reports of the set at a place.
 use mathlib.Core.Path.{_≡_, refl, sym, ap, _∙_, subst⁻¹}
 use mathlib.Core.Bool.{Bool, true, false, _&&_, not, Bool·not-not}
-use mathlib.Core.List.{List, [], _∷_, _++_, map}
+use mathlib.Core.List.{List, [], _∷_, _++_, map, append-nil}
 use mathlib.Core.Option.{Option, none, some}
 use Prim.Native.Nat.{ℕ, _+_, _-_, _<_}
 use native.Mathlib.Omega.{arith}
@@ -36,7 +36,7 @@ use Rattle.findings.specs.Remaining.{events, remaining}
 use Rattle.findings.specs.Steps.{start}
 use Rattle.findings.proofs.Linked.{walk-notes}
 use Rattle.findings.proofs.Told.{written-flat, null-flat}
-use Rattle.writing.specs.Over.{sat, From}
+use Rattle.writing.specs.Over.{sat, Wrote, From}
 use Rattle.writing.proofs.Over.{over-nil}
 use Rattle.writing.proofs.Laws.{whole}
 use Rattle.writing.proofs.Segments.{one, then as next}
@@ -85,32 +85,24 @@ block-written {d} r a b c e =
     }
 
 -- the header of the set at a place
-header-here : (d : Delimiters) (body : Bytes) (at end : ℕ) → at < length body → end ≡ at + indexOf (d .terminator) (drop at body)
+pub header-here : (d : Delimiters) (body : Bytes) (at end : ℕ) → at < length body → end ≡ at + indexOf (d .terminator) (drop at body)
     → split (d .element) (take (end - at) (drop at body)) ≡ setHere d body at .header
 unfolding setIn
 header-here d body at end h q = let e = segments-at d body at end h q in let f = header-at d body at _ h refl in cc
 
 -- AK2 and AK5 are the block of an accepted set
-pub acceptance-written : {d : Delimiters} (body : Bytes) (at : ℕ) {st : Bytes} {end n l : ℕ} {o o₁ o₂ : Bytes} → at < length body
-    → end ≡ at + indexOf (d .terminator) (drop at body) → st ≡ take (end - at) (drop at body)
-    → From 0 (segmentOut d (ascii "AK2" ∷ field (split (d .element) st) 1 ∷ field (split (d .element) st) 2 ∷ [])) n o o₁
-    → From n (segmentOut d (ascii "AK5" ∷ ascii "A" ∷ [])) l o₁ o₂
-    → Tells d (acceptance (setHere d body at)) (record { length = l; segments = 2 }) o o₂
-unfolding acceptance
-acceptance-written {d} body at {end = end} h q p a b =
-    let first = rw (p, header-here d body at end h q) at a in
-    record { text = whole (next d (_ ∷ []) (_ ∷ []) (one d _ first) (one d _ b)); number = omega arith }
+pub acceptance-written : {d : Delimiters} (s : Set) {st01 st02 : Bytes} {n : ℕ} {o o₁ : Bytes} → st01 ≡ field (s .header) 1 → st02 ≡ controlOf s
+    → Wrote (segmentOut d (ascii "AK2" ∷ st01 ∷ st02 ∷ []) ++ segmentOut d (ascii "AK5" ∷ ascii "A" ∷ [])) n o o₁
+    → Tells d (acceptance s) (record { length = n; segments = 2 }) o o₁
+unfolding acceptance out
+acceptance-written {d} s p q w = record { text = rw append-nil (rw (p, q) at w); number = omega arith }
 
--- and are as long as ST01, ST02 and twelve bytes
-pub acceptance-measured : {d : Delimiters} {body : Bytes} {at : ℕ} {r : SetAt} {st st01 st02 : Bytes} {both n : ℕ} → SetIs d body at r
-    → st ≡ take (r .header - at) (drop at body) → st01 ≡ field (split (d .element) st) 1 → st02 ≡ field (split (d .element) st) 2
-    → both ≡ sat (length st01 + length st02) → n ≡ sat (12 + both) → Measures d (acceptance (setIn d body at r)) (record { length = n; segments = 2 })
+-- and are as long as ST02 and fifteen bytes, where ST01 has three
+pub acceptance-measured : {d : Delimiters} (s : Set) {st02 : Bytes} → length (field (s .header) 1) ≡ 3 → st02 ≡ controlOf s
+    → Measures d (acceptance s) (record { length = sat (15 + length st02); segments = 2 })
 unfolding acceptance fieldsOut out
-acceptance-measured {d} is p f g b e =
-    record {
-      text = record { count = simp length-append (omega (arith, ap length (rw (p, ← is .header) at f), ap length (rw (p, ← is .header) at g))); bytes = sym (over-nil _) };
-      number = omega arith;
-    }
+acceptance-measured s l q =
+    record { text = record { count = simp length-append (omega (arith, l, ap length q)); bytes = sym (over-nil _) }; number = omega arith }
 
 -- there are notes where the number of their segments is not 0
 are-notes : (ns : List Note) {m : ℕ} → m ≡ sat (length (ak3s ns)) → not (eqb m 0) ≡ not (null ns)
@@ -157,7 +149,7 @@ module _ {d : Delimiters} {s : Set} {closed : Bool} {n : ℕ} {bs st se : Bytes}
     notes = notesIn d (some (tableOf ids rows)) s
 
     -- the events of a walk through the set are its notes
-    events-are : events (remaining bs d ids rows closed start) ≡ flat notes
+    pub events-are : events (remaining bs d ids rows closed start) ≡ flat notes
     events-are =
         rw (walk-notes bs d ids rows closed limits (parts .short) (sym (parts .whole)), ← parts .trailer, ← closed-if closed (split (d .element) se), Bool·not-not closed)
 

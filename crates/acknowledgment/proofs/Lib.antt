@@ -4,3 +4,5 @@ pub mod Turns
 pub mod Surveys
 pub mod Responses
 pub mod Answering
+pub mod Headers
+pub mod Looks

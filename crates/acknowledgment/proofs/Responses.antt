@@ -21,6 +21,7 @@ use Rattle.tables.specs.Reading.{Guide}
 use Rattle.guides.specs.Choice.{scopeIn}
 use Rattle.guides.specs.declared.Scope.{Scope}
 use Rattle.text.specs.Text.{part}
+use Rattle.look.specs.Bytes.{validBytes}
 use Rattle.envelope.specs.declared.GroupAt.{GroupAt}
 use Rattle.envelope.specs.Places.{trailerIn}
 use Rattle.envelope.proofs.Laws.{GroupIs}
@@ -62,10 +63,12 @@ group-at {d} {i} {f = f} h p q r = h .group ∙ rw (p, q, r, trailer-at (f .clos
     trailer-at false = refl
 
 -- what a look at the sets asks of the body
-pub sets-open : {d : Delimiters} {i body : Bytes} {f : GroupAt} {ids : List (List ℕ)} {rows : Guide} {scope : Scope} {starts marks : List ℕ}
-    → Answerable d i f ids rows scope → body ≡ part i (f .body) (f .«body_end») → length starts ≡ 5462 → length marks ≡ 5462
-    → Open d body rows scope starts marks
-sets-open a q l m = record {
+pub sets-open : {d : Delimiters} {i body : Bytes} {f : GroupAt} {ids : List (List ℕ)} {valid : List Bool} {rows : Guide} {scope : Scope} {starts marks : List ℕ}
+    → Answerable d i f ids rows scope → body ≡ part i (f .body) (f .«body_end») → valid ≡ validBytes d → length starts ≡ 5462 → length marks ≡ 5462
+    → Open d body valid rows scope starts marks
+sets-open a q v l m = record {
+  bytes = v;
+  apart = a .apart;
   passed = rw q (a .passed);
   short = rw q (simp (length-take, length-drop) (omega (arith, a .short)));
   tables = a .tables;

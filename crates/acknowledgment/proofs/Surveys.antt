@@ -3,7 +3,7 @@ use mathlib.Core.Path.{_≡_, refl, sym, ap, _∙_}
 use mathlib.Core.Bool.{Bool, true, false}
 use mathlib.Core.List.{List, [], _∷_, _++_}
 use mathlib.Core.Option.{Option}
-use Prim.Native.Nat.{ℕ, zero, suc, _+_, _<_, _≤_}
+use Prim.Native.Nat.{ℕ, zero, suc, _+_, _-_, _<_, _≤_}
 use native.Mathlib.Numerals.{add-one}
 use native.Mathlib.Omega.{arith}
 use borrow.Author.Count.{below-none, below-more}
@@ -15,17 +15,20 @@ use Rattle.rules.specs.Cutting.{Segment, field, split, segments}
 use Rattle.rules.specs.Tables.{Table}
 use Rattle.rules.specs.Sets.{Set, SetReport, setsOf, outside, controlOf, accepted}
 use Rattle.rules.specs.Groups.{acceptedIn}
+use Rattle.rules.specs.Refusals.{goodST}
 use Rattle.rules.specs.Response.{block}
 use Rattle.rules.specs.declared.Delimiters.{Delimiters}
 use Rattle.rules.proofs.Lengths.{either}
+use Rattle.rules.proofs.Logic.{all-head, all-tail}
 use Rattle.rules.proofs.Facts.{reports-count}
-use Rattle.text.specs.Text.{part}
+use Rattle.text.specs.Text.{indexOf, part}
 use Rattle.tables.specs.Reading.{Guide}
 use Rattle.guides.specs.declared.Scope.{Scope}
-use Rattle.segments.proofs.Pieces.{segments-none}
+use Rattle.segments.proofs.Pieces.{segments-at, segments-none}
 use Rattle.sets.specs.Places.{setAt, controlAt, controlsAt}
 use Rattle.sets.specs.declared.SetAt.{SetAt}
-use Rattle.sets.proofs.Sets.{SetIs, set-next}
+use Rattle.sets.proofs.Sets.{SetIs, set-next, clean-starts}
+use Rattle.sets.proofs.Refused.{good}
 use Rattle.sets.proofs.Number.{sets-number}
 use Rattle.register.specs.declared.Found.{Found}
 use Rattle.register.specs.declared.Found.the-variants.{Free}
@@ -34,7 +37,7 @@ use Rattle.register.proofs.Entered.{Entered, entered-none, entered-finds, enter
 use Rattle.writing.specs.Over.{sat}
 use Rattle.notes.specs.declared.Told.{Told}
 use Rattle.acknowledgment.specs.Writers.{Measures}
-use Rattle.acknowledgment.specs.Surveys.{Room, EnteredNext, setHere, reportAt, reports, remaining, markOf, Marked, Seen, Surveyed, Open}
+use Rattle.acknowledgment.specs.Surveys.{Room, EnteredNext, setHere, reportAt, reports, remaining, markOf, Marked, Headed, Seen, Surveyed, Open}
 use Rattle.acknowledgment.proofs.Reports.{remaining-all, remaining-none, remaining-next, drop-next, mark-accepts}
 use Rattle.acknowledgment.proofs.Turns.{Sofar, sofar-end, sofar-measured, seen-next}
 
@@ -85,6 +88,7 @@ pub record Seeing (d : Delimiters) (table : Set → Option Table) (body : Bytes)
   pub received : k + length (setsOf (segments d (drop at body))) ≡ length (setsOf (segments d body))
   pub allowed : a + acceptedIn (remaining d table body (take k starts) at) ≡ acceptedIn (reports d table body)
   pub clean : outside (segments d (drop at body)) ≡ false
+  pub headers : good d (setsOf (segments d (drop at body))) ≡ true
   pub seen : (j : ℕ) → j < k → Seen d table body (take j starts) j (getD starts j 0) (getD marks j 0)
   pub entered : Entered d body starts links k
   pub few : length (setsOf (segments d body)) ≤ 5461
@@ -93,13 +97,14 @@ pub record Seeing (d : Delimiters) (table : Set → Option Table) (body : Bytes)
   pub marked : length marks ≡ 5462
   pub linked : length links ≡ 22872
 
-pub seeing-start : {d : Delimiters} (table : Set → Option Table) {body : Bytes} {rows : Guide} {scope : Scope} {starts marks : List ℕ} (links : List ℕ)
-    → Open d body rows scope starts marks → ((s : ℕ) → getD links s 0 ≡ 0) → length links ≡ 22872 → Seeing d table body starts marks links 0 0 0
+pub seeing-start : {d : Delimiters} (table : Set → Option Table) {body : Bytes} {valid : List Bool} {rows : Guide} {scope : Scope} {starts marks : List ℕ} (links : List ℕ)
+    → Open d body valid rows scope starts marks → ((s : ℕ) → getD links s 0 ≡ 0) → length links ≡ 22872 → Seeing d table body starts marks links 0 0 0
 seeing-start {d} table {body} {starts = starts} {marks = marks} links o h l = record {
   rest = sym (remaining-all d table body);
   received = omega arith;
   allowed = rw (remaining-all d table body) (omega arith);
   clean = o .passed .clean;
+  headers = o .passed .headers;
   seen = below-none _;
   entered = entered-none d body starts links h;
   few = omega (arith, sets-number d body (o .passed .headers), o .short);
@@ -114,6 +119,16 @@ module _ {d : Delimiters} {table : Set → Option Table} {body : Bytes} {starts 
   -- the set at the place
   pub seeing-set : {r : SetAt} → at < length body → r ≡ setAt d body at → SetIs d body at r
   seeing-set h q = set-next d body at _ h q (s .clean)
+
+  -- its header can be answered
+  pub seeing-headed : at < length body → Headed d body at
+  unfolding setsOf
+  seeing-headed h =
+      let end = at + indexOf (d .terminator) (drop at body) in
+      let z : end - at ≡ indexOf (d .terminator) (drop at body) = omega arith in
+      let here = rw z at (segments-at d body at end h refl) in
+      let st = clean-starts _ _ (rw here at (s .clean)) in
+      record { inside = h; named = st; good = all-head (λ x. goodST d (x .header)) _ _ (rw (here, st) at (s .headers)) }
 
   -- there is room for it
   pub seeing-room : {r : SetAt} → SetIs d body at r → k < 5461
@@ -150,7 +165,7 @@ module _ {d : Delimiters} {table : Set → Option Table} {body : Bytes} {starts 
         getD-set-same starts k at 0 (omega (arith, s .places)),
         getD-set-same marks k m 0 (omega (arith, s .marked)),
       )
-      (record { inside = h; clean = s .clean; rest = s .rest; marked = e })
+      (record { headed = seeing-headed h; clean = s .clean; rest = s .rest; marked = e })
 
   -- its mark is right after those before it
   pub seeing-marked : {starts′ links′ : List ℕ} {repeated : Bool} {m : ℕ} → at < length body
@@ -169,7 +184,7 @@ module _ {d : Delimiters} {table : Set → Option Table} {body : Bytes} {starts 
       → n′ ≡ sat (n + told .length) → l′ ≡ sat (l + told .segments)
       → Sofar d (reports d table body) [] [] n l k → Sofar d (reports d table body) [] [] n′ l′ (k + 1)
   seeing-measured {m = m} h marked w nn ll sofar =
-      let here : Seen d table body (take k starts) k at m = record { inside = h; clean = s .clean; rest = s .rest; marked = marked } in
+      let here : Seen d table body (take k starts) k at m = record { headed = seeing-headed h; clean = s .clean; rest = s .rest; marked = marked } in
       sofar-measured sofar (seen-next here) w nn ll
 
   pub seeing-turn : {starts′ links′ : List ℕ} {repeated : Bool} {m a′ : ℕ} → at < length body
@@ -191,6 +206,7 @@ module _ {d : Delimiters} {table : Set → Option Table} {body : Bytes} {starts 
             rw (e .stored, more, g)
             (accepted-next (reportAt d table body at earlier) onward a (eqb m 0) (mark-accepts d (table (setHere d body at)) (setHere d body at) earlier marks-here) ∙ (rw next at (s .allowed)));
         clean = sym (i .strays) ∙ s .clean;
+        headers = all-tail (λ x. goodST d (x .header)) _ _ (rw (i .first) at (s .headers));
         seen = rw (e .stored) (below-more _ k (seen-stays m) (seen-here m room h marks-here));
         entered = e .entered;
         few = s .few;

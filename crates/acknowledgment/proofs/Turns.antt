@@ -83,7 +83,7 @@ sofar-measured s next w nn mm = sofar-turn s {rest = 0} next (omega arith) w nn 
 -- the set that a survey names, and its report
 module _ {d : Delimiters} {table : Set → Option Table} {body : Bytes} {before : List ℕ} {k at mark : ℕ} (s : Seen d table body before k at mark) where
   pub seen-set : SetIs d body at (setAt d body at)
-  seen-set = set-next d body at _ (s .inside) refl (s .clean)
+  seen-set = set-next d body at _ (s .headed .inside) refl (s .clean)
 
   pub seen-next : drop k (reports d table body) ≡ reportAt d table body at (controlsAt d body before) ∷ drop (k + 1) (reports d table body)
   seen-next =

@@ -9,7 +9,7 @@ use Rattle.rules.specs.Tables.{Table}
 use Rattle.rules.specs.Sets.{Set, SetReport, setReport}
 use Rattle.rules.specs.declared.Delimiters.{Delimiters}
 use Rattle.tables.specs.Reading.{Guide}
-use Rattle.guides.specs.Choice.{placeOf, tableAt, Stands}
+use Rattle.guides.specs.Choice.{placeOf, tableAt, Stands, OrderlyAt}
 use Rattle.guides.specs.declared.Scope.{Scope}
 use Rattle.text.specs.Text.{part}
 use Rattle.sets.specs.declared.SetAt.{SetAt}
@@ -23,6 +23,10 @@ tableBy ids rows scope s = tableAt ids rows (placeOf scope (field (s .header) 1)
 -- every table of this scope stands among the rows
 abbrev pub Scoped : Guide → Scope → Type 0
 Scoped rows scope = (st01 : Bytes) → Stands rows (placeOf scope st01)
+
+-- every table of this scope is orderly by this directory
+abbrev pub Ordered : List (List ℕ) → Guide → Scope → Type 0
+Ordered ids rows scope = (st01 : Bytes) → OrderlyAt ids rows (placeOf scope st01)
 
 -- the set at a place, with the table that its ST01 gives it
 abbrev pub receivedAt : Delimiters → Scope → Bytes → SetAt → Bool → ReceivedSet

@@ -1,27 +1,34 @@
 -- What one look at the sets of a group tells: where each starts, and by its mark whether it is accepted and whether its control number was used before.
-use Prim.Native.Nat.{ℕ, _+_, _<_, _≤_}
+use Prim.Native.Nat.{ℕ, _+_, _-_, _<_, _≤_}
 use mathlib.Core.Path.{_≡_}
-use mathlib.Core.Bool.{Bool, false}
+use mathlib.Core.Bool.{Bool, true, false, _&&_}
 use mathlib.Core.List.{List, [], _∷_}
 use mathlib.Core.Option.{Option}
+use lib.Dec.{eqb}
 use lib.ListN.{length, take, drop, getD, set}
-use Rattle.rules.specs.Base.{Bytes, ascii, member, if_then_else_}
-use Rattle.rules.specs.Cutting.{Segment, field, segments}
+use Rattle.rules.specs.Base.{Bytes, ascii, same, member, if_then_else_}
+use Rattle.rules.specs.Cutting.{Segment, field, split, segments}
+use Rattle.rules.specs.Numbers.{declares}
 use Rattle.rules.specs.Tables.{Table}
-use Rattle.rules.specs.Sets.{Set, SetReport, setsOf, outside, controlOf, setReport, accepted}
+use Rattle.rules.specs.Sets.{Set, SetReport, isST, setsOf, outside, controlOf, setReport, accepted}
 use Rattle.rules.specs.Groups.{setReports, acceptedIn}
-use Rattle.rules.specs.Response.{blocks}
+use Rattle.rules.specs.Refusals.{goodST}
+use Rattle.rules.specs.Response.{block, blocks}
+use Rattle.text.specs.Text.{indexOf, part}
+use Rattle.look.specs.Bytes.{validBytes}
 use Rattle.rules.specs.declared.Delimiters.{Delimiters}
 use Rattle.tables.specs.Reading.{Guide}
 use Rattle.guides.specs.declared.Scope.{Scope}
 use Rattle.sets.specs.Places.{setAt, controlAt, controlsAt}
-use Rattle.sets.proofs.Sets.{setIn}
+use Rattle.sets.specs.declared.SetAt.{SetAt}
+use Rattle.sets.proofs.Sets.{SetIs, setIn}
 use Rattle.sets.proofs.Refused.{Passed}
 use Rattle.register.specs.Trees.{slotOf}
 use Rattle.register.proofs.Entered.{Entered}
 use Rattle.acknowledgment.specs.declared.survey.Survey.{Survey}
+use Rattle.acknowledgment.specs.declared.survey.SurveyedSet.{SurveyedSet}
 use Rattle.acknowledgment.specs.Writers.{Measures}
-use Rattle.acknowledgment.specs.Received.{Scoped}
+use Rattle.acknowledgment.specs.Received.{Scoped, Ordered}
 
 -- 1. A set is entered among those before it.
 -- There is room for set k, which starts at a place.
@@ -52,10 +59,43 @@ reports d table body = setReports d table [] (setsOf (segments d body))
 unfoldable pub remaining : Delimiters → (Set → Option Table) → Bytes → List ℕ → ℕ → List SetReport
 remaining d table body before at = setReports d table (controlsAt d body before) (setsOf (segments d (drop at body)))
 
--- 3. Marks.
+-- 3. One look at a set.
+-- the header at a place
+abbrev pub headerAt : Delimiters → Bytes → ℕ → Segment
+headerAt d body at = split (d .element) (take (indexOf (d .terminator) (drop at body)) (drop at body))
+
+-- A header that can be answered starts at a place.
+pub record Headed (d : Delimiters) (body : Bytes) (at : ℕ) : Type 0 where
+  pub inside : at < length body
+  pub named : isST (headerAt d body at) ≡ true
+  pub good : goodST d (headerAt d body at) ≡ true
+
+-- the trailer of a set at a place declares its segments, and has this control number
+abbrev pub closedWell : Delimiters → Bytes → SetAt → Bytes → Bool
+closedWell d body place control =
+    let se = split (d .element) (part body (place .trailer) (place .end - 1)) in
+    declares 10 (field se 1) (place .segments) && same (field se 2) control
+
+-- The set at a place, with this control number, can be looked at by a table of the valid bytes and by the tables of this scope.
+pub record Sighted (d : Delimiters) (body : Bytes) (valid : List Bool) (rows : Guide) (scope : Scope) (at : ℕ) (control : Bytes) : Type 0 where
+  pub headed : Headed d body at
+  pub is : SetIs d body at (setAt d body at)
+  pub numbered : control ≡ controlAt d body at
+  pub bytes : valid ≡ validBytes d
+  pub apart : eqb (d .element) (d .terminator) ≡ false
+  pub tables : Scoped rows scope
+  pub short : length body ≤ 65536
+  pub ids : List (List ℕ)
+  pub ordered : Ordered ids rows scope
+
+-- 4. Marks.
+-- by whether a set's number was used before, and whether it has no code else
+abbrev pub markBy : Bool → Bool → ℕ
+markBy repeated clean = if repeated then 2 else (if clean then 0 else 1)
+
 -- by whether a set's number was used before, and its report where it was not
 unfoldable pub markOf : Bool → SetReport → ℕ
-markOf repeated r = if repeated then 2 else (if accepted r then 0 else 1)
+markOf repeated r = markBy repeated (accepted r)
 
 abbrev pub Marked : Delimiters → (Set → Option Table) → Bytes → ℕ → List Bytes → ℕ → Type 0
 Marked d table body at earlier mark = mark ≡ markOf (member (controlOf (setHere d body at)) earlier) (reportAt d table body at [])
@@ -64,10 +104,17 @@ Marked d table body at earlier mark = mark ≡ markOf (member (controlOf (setHer
 unfoldable pub acceptance : Set → List Segment
 acceptance s = (ascii "AK2" ∷ field (s .header) 1 ∷ controlOf s ∷ []) ∷ (ascii "AK5" ∷ ascii "A" ∷ []) ∷ []
 
--- 4. The look.
+-- The set at a place was looked at: its mark, what its block comes to, and where it ends.
+pub record SurveyedIs (d : Delimiters) (table : Set → Option Table) (body : Bytes) (at : ℕ) (repeated : Bool) (r : SurveyedSet) : Type 0 where
+  pub marked : r .mark ≡ markOf repeated (reportAt d table body at [])
+  pub measured : (earlier : List Bytes) → repeated ≡ member (controlOf (setHere d body at)) earlier
+      → Measures d (block (reportAt d table body at earlier)) (r .block)
+  pub ends : r .end ≡ setAt d body at .end
+
+-- 5. The look at all sets.
 -- Set k starts at a place and has this mark; those before it start at these places.
 pub record Seen (d : Delimiters) (table : Set → Option Table) (body : Bytes) (before : List ℕ) (k at mark : ℕ) : Type 0 where
-  pub inside : at < length body
+  pub headed : Headed d body at
   pub clean : outside (segments d (drop at body)) ≡ false
   pub rest : drop k (reports d table body) ≡ remaining d table body before at
   pub marked : Marked d table body at (controlsAt d body before) mark
@@ -82,7 +129,9 @@ pub record Surveyed (d : Delimiters) (table : Set → Option Table) (body : Byte
   pub seen : (k : ℕ) → k < r .sets .received → Seen d table body (take k starts) k (getD starts k 0) (getD marks k 0)
 
 -- The sets of a group can be looked at.
-pub record Open (d : Delimiters) (body : Bytes) (rows : Guide) (scope : Scope) (starts marks : List ℕ) : Type 0 where
+pub record Open (d : Delimiters) (body : Bytes) (valid : List Bool) (rows : Guide) (scope : Scope) (starts marks : List ℕ) : Type 0 where
+  pub bytes : valid ≡ validBytes d
+  pub apart : eqb (d .element) (d .terminator) ≡ false
   pub passed : Passed d (segments d body)
   pub short : length body ≤ 65536
   pub tables : Scoped rows scope

@@ -1,7 +1,9 @@
 -- What the writers of the response promise, and what they ask of the interchange.
 use Prim.Native.Nat.{ℕ, _≤_}
 use mathlib.Core.Path.{_≡_}
+use mathlib.Core.Bool.{false}
 use mathlib.Core.List.{List, [], _∷_}
+use lib.Dec.{eqb}
 use lib.ListN.{length}
 use Rattle.rules.specs.Base.{Bytes, ascii}
 use Rattle.rules.specs.Cutting.{Segment, field, delimiters, isa, split, segments}
@@ -22,6 +24,7 @@ use Rattle.verdicts.specs.declared.Summary.{Summary}
 use Rattle.writing.specs.Over.{sat, From}
 use Rattle.notes.specs.Saying.{Tells}
 use Rattle.notes.specs.declared.Told.{Told}
+use Rattle.acknowledgment.specs.Received.{Ordered}
 
 -- The segments ss were written after n bytes of o, which leaves o′: r has the length so far and their number.
 pub record TellsFrom (n : ℕ) (d : Delimiters) (ss : List Segment) (r : Told) (o o′ : Bytes) : Type 0 where
@@ -47,6 +50,8 @@ pub record Answerable (d : Delimiters) (i : Bytes) (f : GroupAt) (ids : List (Li
   pub place : GroupIs d i f
   pub passed : Passed d (segments d (part i (f .body) (f .«body_end»)))
   pub short : length i ≤ 65536
+  pub apart : eqb (d .element) (d .terminator) ≡ false
   pub scoped : scope ≡ scopeIn (split (d .element) (part i (f .gs) (f .«gs_end»)))
   pub tables : (st01 : Bytes) → Stands rows (placeOf scope st01)
+  pub ordered : Ordered ids rows scope
   pub table : (s : Set) → tableIn (split (d .element) (part i (f .gs) (f .«gs_end»))) s ≡ tableAt ids rows (placeOf scope (field (s .header) 1))

@@ -131,9 +131,18 @@ pub(crate) fn respond(
     let gs = text::part(i, f.gs, f.gs_end);
     let body = text::part(i, f.body, f.body_end);
     let ge = text::part(i, f.ge, f.ge_end);
+    let valid = look::valid_bytes(d);
     let mut starts: [u16; MOST_SETS] = [0; MOST_SETS];
     let mut marks: [u8; MOST_SETS] = [0; MOST_SETS];
-    let survey = survey::survey_sets(body, reading, directory, rows, &mut starts, &mut marks);
+    let survey = survey::survey_sets(
+        body,
+        reading,
+        &valid,
+        directory,
+        rows,
+        &mut starts,
+        &mut marks,
+    );
     let scope = reading.scope;
     let sets = survey.sets;
     let summary = verdicts::summary_of(gs, ge, f.closed, d, scope, sets);

@@ -3,7 +3,7 @@ ghost use mathlib.Core.Path.{_≡_};
 ghost use mathlib.Core.Bool.{false, not};
 ghost use mathlib.Core.List.{List, []};
 ghost use mathlib.Core.Option.{Option};
-ghost use Prim.Native.Nat.{_<_};
+ghost use Prim.Native.Nat.{ℕ, _+_, _<_, _≤_};
 ghost use lib.ListN.{length};
 ghost use Rattle.rules.specs.Base.{Bytes, null, isNone, member};
 ghost use Rattle.rules.specs.Tables.{Table};
@@ -11,15 +11,18 @@ ghost use Rattle.rules.specs.Segments.{Note};
 ghost use Rattle.rules.specs.Sets.{controlOf, notesIn, setCodes, accepted};
 ghost use Rattle.rules.specs.Response as law;
 ghost use Rattle.guides.specs.Choice.{isThere, tableAt};
-ghost use Rattle.sets.specs.Places.{setAt};
+ghost use Rattle.text.specs.Text.{part};
+ghost use Rattle.sets.specs.Places.{setAt, controlAt};
 ghost use Rattle.sets.proofs.Sets.{SetIs};
 ghost use Rattle.verdicts.specs.Collecting.{codesOf};
+ghost use Rattle.writing.specs.Over.{sat};
 ghost use Rattle.notes.specs.Saying.{Tells};
 ghost use Rattle.acknowledgment.specs.Writers.{TellsFrom, Measures};
-ghost use Rattle.acknowledgment.specs.Received.{Scoped, receivedAt, setOf, ReceivedIs, reportOf, tableBy};
-ghost use Rattle.acknowledgment.specs.Surveys.{setHere, reportAt, markOf, Marked, acceptance};
+ghost use Rattle.acknowledgment.specs.Received.{Scoped, Ordered, receivedAt, setOf, ReceivedIs, reportOf, tableBy};
+ghost use Rattle.acknowledgment.specs.Surveys.{setHere, reportAt, Marked, acceptance, Headed, closedWell, Sighted};
 use guides::Scope;
 use guides::TableAt;
+use look::Look;
 use notes::Told;
 use rules::Delimiters;
 use sets::SetAt;
@@ -33,13 +36,19 @@ pub const REJECTED: u8 = 1;
 
 pub const REPEATED: u8 = 2;
 
-// The bytes of AK2 and AK5 of an accepted set beside its ST01 and ST02.
-const ACCEPTANCE: usize = 12;
+// The bytes of AK2 and AK5 of an accepted set beside its ST02: ST01 has three.
+const ACCEPTANCE: usize = 15;
 
 // How the sets of a group are read: by which delimiters, and by which tables.
 pub struct Reading {
     pub delimiters: Delimiters,
     pub scope: Scope,
+}
+
+// A set that was looked at: its place, and whether it has no code where its control number was not used before.
+pub struct SeenSet {
+    pub place: SetAt,
+    pub clean: bool,
 }
 
 // A set as received: where it stands, where its table stands, and whether an earlier set has its control number.
@@ -89,25 +98,67 @@ fn codes_of(body: &[u8], d: Delimiters, set: ReceivedSet, noted: bool) -> Codes
     verdicts::set_codes(header, trailer, d, facts)
 }
 
-// A set whose control number was not used before has no code.
-pub(crate) fn is_clean(
-    body: &[u8],
-    d: Delimiters,
-    set: ReceivedSet,
-    directory: &[[u8; 3]],
-    rows: &[[u16; 6]],
-) -> bool
-    requires { ⌜ (ReceivedIs d (now body) (now rows) set) × (set .repeated ≡ false) ⌝ }
-    ensures { λ r. ⌜ r ≡ accepted (reportOf d (now (directory .entry)) (now (rows .entry)) (now (body .entry)) set []) ⌝ }
+// ST01 of the header that starts at `at`: three bytes.
+fn kind_of(body: &[u8], at: usize) -> &[u8]
+    requires { ⌜ at + 6 ≤ length (now body) ⌝ }
+    ensures { λ r. ⌜ now r ≡ part (now (body .entry)) (at + 3) (at + 6) ⌝ }
 {
-    let table = set.table;
-    match table {
-        TableAt::Nowhere => false,
+    &body[at + 3..at + 6]
+}
+
+// ST02 of the header that starts at `at`: it comes after a separator, and goes up to the next one or to the terminator.
+pub(crate) fn control_of(body: &[u8], d: Delimiters, at: usize) -> &[u8]
+    requires { ⌜ Headed d (now body) at ⌝ }
+    ensures { λ r. ⌜ now r ≡ controlAt d (now (body .entry)) at ⌝ }
+{
+    let start = at + 7;
+    let end = register::field_end(body, d, start);
+    &body[start..end]
+}
+
+// The trailer of a set at a place, with this control number, is as it should be.
+fn is_closed_well(body: &[u8], d: Delimiters, place: SetAt, control: &[u8]) -> bool
+    requires { ⌜ 0 < place .end ⌝ }
+    ensures { λ r. ⌜ r ≡ closedWell d (now (body .entry)) place (now (control .entry)) ⌝ }
+{
+    let trailer = text::part(body, place.trailer, place.end - 1);
+    verdicts::closes(trailer, d.element, place.segments, control)
+}
+
+// The set that starts at `at`, which has a code whatever its control number is: it is cut.
+fn odd_set(body: &[u8], d: Delimiters, at: usize) -> SeenSet
+    ensures { λ r. ⌜ r ≡ record { place = setAt d (now (body .entry)) at; clean = false } ⌝ }
+{
+    SeenSet {
+        place: sets::next_set(body, d, at),
+        clean: false,
+    }
+}
+
+// One look at the set that starts at `at`, with this control number. A set with an oddity is cut as well.
+pub(crate) fn see(
+    body: &[u8],
+    reading: Reading,
+    valid: &[bool; 256],
+    rows: &[[u16; 6]],
+    at: usize,
+    control: &[u8],
+) -> SeenSet
+    requires { ⌜ Sighted (reading .delimiters) (now body) (now valid) (now rows) (reading .scope) at (now control) ⌝ }
+    ensures { λ r. ⌜ (r .place ≡ setAt (reading .delimiters) (now (body .entry)) at) × ((ids : List (List ℕ)) → Ordered ids (now (rows .entry)) (reading .scope) → r .clean ≡ accepted (reportAt (reading .delimiters) (tableBy ids (now (rows .entry)) (reading .scope)) (now (body .entry)) at [])) ⌝ }
+{
+    let d = reading.delimiters;
+    let scope = reading.scope;
+    match guides::table_of(scope, kind_of(body, at)) {
+        TableAt::Nowhere => odd_set(body, d, at),
         TableAt::Rows(from, end) => {
-            let place = set.place;
-            let bytes = text::part(body, place.start, place.end);
-            codes_of(body, d, set, false).is_empty()
-                && !findings::is_noted(bytes, d, directory, &rows[from..end], place.closed)
+            match look::look_at(body, d, valid, &rows[from..end], at) {
+                Look::Odd => odd_set(body, d, at),
+                Look::Quiet(place) => SeenSet {
+                    place,
+                    clean: is_closed_well(body, d, place, control),
+                },
+            }
         }
     }
 }
@@ -153,13 +204,11 @@ fn add_notes(
 
 // The block of an accepted set: AK2 and AK5.
 fn put_accepted(out: &mut [u8], body: &[u8], d: Delimiters, at: usize) -> Told
-    requires { ⌜ at < length (now body) ⌝ }
+    requires { ⌜ (Headed d (now body) at) × SetIs d (now body) at (setAt d (now body) at) ⌝ }
     ensures { λ r. ⌜ Tells d (acceptance (setHere d (now (body .entry)) at)) r (now (out .entry)) (now (out .exit)) ⌝ }
 {
-    let header = text::part(body, at, text::find(body, at, d.terminator));
-    let n = blocks::add_ak2(out, 0, d, header);
     Told {
-        length: blocks::add_ak5(out, n, d, Codes::none()),
+        length: blocks::put_acceptance(out, d, kind_of(body, at), control_of(body, d, at)),
         segments: 2,
     }
 }
@@ -196,7 +245,7 @@ pub(crate) fn put_block(
     directory: &[[u8; 3]],
     rows: &[[u16; 6]],
 ) -> Told
-    requires { ⌜ (set .start < length (now body)) × ((SetIs (reading .delimiters) (now body) (set .start) (setAt (reading .delimiters) (now body) (set .start))) × Scoped (now rows) (reading .scope)) ⌝ }
+    requires { ⌜ (Headed (reading .delimiters) (now body) (set .start)) × ((SetIs (reading .delimiters) (now body) (set .start) (setAt (reading .delimiters) (now body) (set .start))) × Scoped (now rows) (reading .scope)) ⌝ }
     ensures { λ r. ⌜ ((earlier : List Bytes) → Marked (reading .delimiters) (tableBy (now (directory .entry)) (now (rows .entry)) (reading .scope)) (now (body .entry)) (set .start) earlier (set .mark) → Tells (reading .delimiters) (law.block (reportAt (reading .delimiters) (tableBy (now (directory .entry)) (now (rows .entry)) (reading .scope)) (now (body .entry)) (set .start) earlier)) r (now (out .entry)) (now (out .exit))) ⌝ }
 {
     let d = reading.delimiters;
@@ -208,28 +257,30 @@ pub(crate) fn put_block(
     put_rejected(out, body, d, received, directory, rows)
 }
 
-// What the block of a set with this mark comes to. That of an accepted set has two segments; any other is measured on an empty part.
-pub(crate) fn measure_block(
+// What the block of an accepted set with this control number comes to.
+pub(crate) fn measure_accepted(control: &[u8]) -> Told
+    ensures { λ r. ⌜ r ≡ record { length = sat (15 + length (now (control .entry))); segments = 2 } ⌝ }
+{
+    Told {
+        length: writing::joined(ACCEPTANCE, control.len()),
+        segments: 2,
+    }
+}
+
+// What the block of any other set comes to: it is measured on an empty part.
+pub(crate) fn measure_rejected(
     body: &[u8],
-    d: Delimiters,
-    set: ReceivedSet,
-    mark: u8,
+    reading: Reading,
+    place: SetAt,
+    repeated: bool,
     directory: &[[u8; 3]],
     rows: &[[u16; 6]],
 ) -> Told
-    requires { ⌜ ReceivedIs d (now body) (now rows) set ⌝ }
-    ensures { λ r. ⌜ ((earlier : List Bytes) → set .repeated ≡ member (controlOf (setOf d (now (body .entry)) set)) earlier → mark ≡ markOf (set .repeated) (reportOf d (now (directory .entry)) (now (rows .entry)) (now (body .entry)) set []) → Measures d (law.block (reportOf d (now (directory .entry)) (now (rows .entry)) (now (body .entry)) set earlier)) r) ⌝ }
+    requires { ⌜ (place ≡ setAt (reading .delimiters) (now body) (place .start)) × ((SetIs (reading .delimiters) (now body) (place .start) place) × Scoped (now rows) (reading .scope)) ⌝ }
+    ensures { λ r. ⌜ ((earlier : List Bytes) → repeated ≡ member (controlOf (setHere (reading .delimiters) (now (body .entry)) (place .start))) earlier → Measures (reading .delimiters) (law.block (reportAt (reading .delimiters) (tableBy (now (directory .entry)) (now (rows .entry)) (reading .scope)) (now (body .entry)) (place .start) earlier)) r) ⌝ }
 {
-    if mark == ACCEPTED {
-        let place = set.place;
-        let header = text::part(body, place.start, place.header);
-        let st01 = segments::field(header, d.element, 1);
-        let st02 = segments::field(header, d.element, 2);
-        return Told {
-            length: writing::joined(ACCEPTANCE, writing::joined(st01.len(), st02.len())),
-            segments: 2,
-        };
-    }
+    let d = reading.delimiters;
+    let set = receive(body, reading, place, repeated);
     let mut nothing: [u8; 1] = [0];
     put_rejected(&mut nothing[0..0], body, d, set, directory, rows)
 }

@@ -1,20 +1,17 @@
 // One look at the sets of a group: where each starts, its mark, and what its block comes to.
 ghost use mathlib.Core.Path.{_≡_};
-ghost use mathlib.Core.List.{[]};
-ghost use Rattle.sets.proofs.Sets.{SetIs};
+ghost use Rattle.sets.specs.Places.{controlAt};
 ghost use Rattle.register.proofs.Entered.{Entered};
-ghost use Rattle.acknowledgment.specs.Received.{ReceivedIs, reportOf, tableBy};
-ghost use Rattle.acknowledgment.specs.Surveys.{Room, EnteredNext, markOf, Surveyed, Open};
+ghost use Rattle.acknowledgment.specs.Received.{Ordered, tableBy};
+ghost use Rattle.acknowledgment.specs.Surveys.{Room, EnteredNext, markBy, Sighted, SurveyedIs, Surveyed, Open};
 use crate::set_block;
 use crate::set_block::ACCEPTED;
 use crate::set_block::REJECTED;
 use crate::set_block::REPEATED;
 use crate::set_block::Reading;
-use crate::set_block::ReceivedSet;
 use notes::Told;
 use register::Found;
 use rules::Delimiters;
-use sets::SetAt;
 use verdicts::Tally;
 
 // More sets than the longest interchange has: each takes twelve bytes at least.
@@ -29,21 +26,20 @@ pub struct Survey {
     pub blocks: Told,
 }
 
-// Whether a set before the one at a place, which is set k, has its ST02. The set is entered for those after it.
+// Whether a set before the one that starts at `at`, which is set k, has its ST02. The set is entered for those after it.
 fn enter(
     body: &[u8],
     d: Delimiters,
     starts: &mut [u16],
     links: &mut [u16],
     k: usize,
-    place: SetAt,
+    at: usize,
+    control: &[u8],
 ) -> bool
-    requires { ⌜ (Entered d (now body) (now starts) (now links) k) × ((Room (now starts) (now links) k (place .start)) × SetIs d (now body) (place .start) place) ⌝ }
-    ensures { λ r. ⌜ EnteredNext d (now (body .entry)) (now (starts .entry)) k (place .start) r (now (starts .exit)) (now (links .exit)) ⌝ }
+    requires { ⌜ (Entered d (now body) (now starts) (now links) k) × ((Room (now starts) (now links) k at) × (now control ≡ controlAt d (now body) at)) ⌝ }
+    ensures { λ r. ⌜ EnteredNext d (now (body .entry)) (now (starts .entry)) k at r (now (starts .exit)) (now (links .exit)) ⌝ }
 {
-    let header = text::part(body, place.start, place.header);
-    let control = segments::field(header, d.element, 2);
-    starts[k] = place.start as u16;
+    starts[k] = at as u16;
     match register::search(body, d, starts, links, control) {
         Found::Repeated => true,
         Found::Free(slot) => {
@@ -54,23 +50,51 @@ fn enter(
 }
 
 // The mark of a set.
-fn mark_of(
-    body: &[u8],
-    d: Delimiters,
-    set: ReceivedSet,
-    directory: &[[u8; 3]],
-    rows: &[[u16; 6]],
-) -> u8
-    requires { ⌜ ReceivedIs d (now body) (now rows) set ⌝ }
-    ensures { λ r. ⌜ r ≡ markOf (set .repeated) (reportOf d (now (directory .entry)) (now (rows .entry)) (now (body .entry)) set []) ⌝ }
+fn mark_of(repeated: bool, clean: bool) -> u8
+    ensures { λ r. ⌜ r ≡ markBy repeated clean ⌝ }
 {
-    if set.repeated {
+    if repeated {
         return REPEATED;
     }
-    if set_block::is_clean(body, d, set, directory, rows) {
-        ACCEPTED
-    } else {
-        REJECTED
+    if clean { ACCEPTED } else { REJECTED }
+}
+
+// A set as surveyed: its mark, what its block comes to, and where it ends.
+struct SurveyedSet {
+    mark: u8,
+    block: Told,
+    end: usize,
+}
+
+// One look at the set that starts at `at`, with this control number.
+fn survey_set(
+    body: &[u8],
+    reading: Reading,
+    valid: &[bool; 256],
+    directory: &[[u8; 3]],
+    rows: &[[u16; 6]],
+    at: usize,
+    control: &[u8],
+    repeated: bool,
+) -> SurveyedSet
+    requires { ⌜ (Sighted (reading .delimiters) (now body) (now valid) (now rows) (reading .scope) at (now control)) × Ordered (now directory) (now rows) (reading .scope) ⌝ }
+    ensures { λ r. ⌜ SurveyedIs (reading .delimiters) (tableBy (now (directory .entry)) (now (rows .entry)) (reading .scope)) (now (body .entry)) at repeated r ⌝ }
+{
+    let seen = set_block::see(body, reading, valid, rows, at, control);
+    let mark = mark_of(repeated, seen.clean);
+    let place = seen.place;
+    let end = place.end;
+    if mark == ACCEPTED {
+        return SurveyedSet {
+            mark,
+            block: set_block::measure_accepted(control),
+            end,
+        };
+    }
+    SurveyedSet {
+        mark,
+        block: set_block::measure_rejected(body, reading, place, repeated, directory, rows),
+        end,
     }
 }
 
@@ -78,12 +102,13 @@ fn mark_of(
 pub(crate) fn survey_sets(
     body: &[u8],
     reading: Reading,
+    valid: &[bool; 256],
     directory: &[[u8; 3]],
     rows: &[[u16; 6]],
     starts: &mut [u16],
     marks: &mut [u8],
 ) -> Survey
-    requires { ⌜ Open (reading .delimiters) (now body) (now rows) (reading .scope) (now starts) (now marks) ⌝ }
+    requires { ⌜ (Open (reading .delimiters) (now body) (now valid) (now rows) (reading .scope) (now starts) (now marks)) × Ordered (now directory) (now rows) (reading .scope) ⌝ }
     ensures { λ r. ⌜ Surveyed (reading .delimiters) (tableBy (now (directory .entry)) (now (rows .entry)) (reading .scope)) (now (body .entry)) (now (starts .exit)) (now (marks .exit)) r ⌝ }
 {
     let d = reading.delimiters;
@@ -94,19 +119,17 @@ pub(crate) fn survey_sets(
     let mut segments = 0;
     let mut at = 0;
     while at < body.len() {
-        let place = sets::next_set(body, d, at);
-        let repeated = enter(body, d, starts, &mut links, received, place);
-        let set = set_block::receive(body, reading, place, repeated);
-        let mark = mark_of(body, d, set, directory, rows);
-        marks[received] = mark;
-        let told = set_block::measure_block(body, d, set, mark, directory, rows);
-        length = writing::joined(length, told.length);
-        segments = writing::joined(segments, told.segments);
-        if mark == ACCEPTED {
+        let control = set_block::control_of(body, d, at);
+        let repeated = enter(body, d, starts, &mut links, received, at, control);
+        let set = survey_set(body, reading, valid, directory, rows, at, control, repeated);
+        marks[received] = set.mark;
+        length = writing::joined(length, set.block.length);
+        segments = writing::joined(segments, set.block.segments);
+        if set.mark == ACCEPTED {
             accepted += 1;
         }
         received += 1;
-        at = place.end;
+        at = set.end;
     }
     Survey {
         sets: Tally { received, accepted },

@@ -1,13 +1,13 @@
 // The segments of the response's transaction set, ST to SE, all but AK3 and AK4: each a row of pieces after n bytes of a lent buffer.
 ghost use mathlib.Core.Path.{_≡_};
-ghost use mathlib.Core.List.{[], _∷_, map};
+ghost use mathlib.Core.List.{[], _∷_, _++_, map};
 ghost use Rattle.rules.specs.Base.{ascii, null, if_then_else_};
 ghost use Rattle.rules.specs.Numbers.{decimal};
 ghost use Rattle.rules.specs.Cutting.{field, split};
 ghost use Rattle.rules.specs.Response.{fieldsOut, segmentOut, stOut, seOut};
 ghost use Rattle.verdicts.specs.Collecting.{codesOf};
 ghost use Rattle.verdicts.specs.Verdicts.{summaryOut};
-ghost use Rattle.writing.specs.Over.{From};
+ghost use Rattle.writing.specs.Over.{Wrote, From};
 use rules::Delimiters;
 use verdicts::Codes;
 use verdicts::Summary;
@@ -60,6 +60,19 @@ pub fn add_ak5(out: &mut [u8], n: usize, d: Delimiters, codes: Codes) -> usize
     let n = writing::add_single(out, n, d, verdict_of(codes));
     let n = add_codes(out, n, d, codes);
     writing::add_byte(out, n, d.terminator)
+}
+
+// AK2 and AK5 of an accepted set with this ST01 and ST02, from the start of what is lent.
+pub fn put_acceptance(out: &mut [u8], d: Delimiters, st01: &[u8], st02: &[u8]) -> usize
+    ensures { λ r. ⌜ Wrote (segmentOut d (ascii "AK2" ∷ now (st01 .entry) ∷ now (st02 .entry) ∷ []) ++ segmentOut d (ascii "AK5" ∷ ascii "A" ∷ [])) r (now (out .entry)) (now (out .exit)) ⌝ }
+{
+    let e = d.element;
+    let t = d.terminator;
+    let ak5 = [t, b'A', b'K', b'5', e, b'A', t];
+    let n = writing::add_bytes(out, 0, &rules::AK2);
+    let n = writing::add_field(out, n, d, st01);
+    let n = writing::add_field(out, n, d, st02);
+    writing::add_bytes(out, n, &ak5)
 }
 
 // AK9: the verdict on the group, its numbers of sets included, received and accepted, and its codes.

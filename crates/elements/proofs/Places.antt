@@ -7,7 +7,7 @@ use native.Mathlib.Nat.{le-refl, zero-lt-suc, le-of-suc-le-suc, not-suc-le-zero}
 use native.Mathlib.Omega.{arith}
 use borrow.Author.Tests.{lt-ltb, le-ltb, ltb-true, ltb-false, leb-true, leb-false, eq-eqb, ne-eqb, eqb-true, eqb-false, not-true}
 use lib.Dec.{eqb, ltb, leb}
-use lib.ListN.{length, getD, take, drop, drop-of-length-le, length-drop}
+use lib.ListN.{length, getD, take, drop, drop-of-length-le, length-drop, length-take}
 use lib.Seq.{take-nil, getD-drop}
 use Rattle.rules.specs.Base.{Bytes, null, all, any, between, _⇒_, first, every, if_then_else_}
 use Rattle.rules.specs.Cutting.{Segment, split, field, valid, marks}
@@ -21,6 +21,7 @@ use Rattle.rules.proofs.Logic.{and-right, or-left}
 use Rattle.text.specs.Text.{indexOf, indexWhere, nextWhere, invalid}
 use Rattle.text.proofs.Loops.{or-false}
 use Rattle.text.proofs.Where.{index-yes, index-no, next-within}
+use Rattle.text.proofs.Search.{find-le}
 use Rattle.segments.proofs.Fields.{FieldAt, field-at, field-next, field-some, field-none, field-past, field-stay, present-length}
 use Rattle.tables.specs.Reading.{Guide, rowAt}
 use Rattle.tables.proofs.Laws.{rows-here, rows-skip}
@@ -168,6 +169,60 @@ module _ {d : Delimiters} {s : Bytes} {n end start next : ℕ} (v : ValidTo d s 
           let i : start + indexOf (d .element) (drop start s) - start ≡ indexOf (d .element) (drop start s) = omega arith in
           rw (field-at b refl, i)
           (stop-spoiled d (drop start s) (omega (arith, v .stops, length-drop start s)) (λ q. eqb-false (getD s next 0) (d .element) e (sym stop-at ∙ q)))
+
+-- the field that follows the one which ends at `end`: it goes from `start` to `next`
+pub record FoundTo (e : ℕ) (s : Bytes) (n end start next : ℕ) : Type 0 where
+  pub at : FieldAt e s n (end + 1)
+  pub within : end ≤ length s
+  pub starts : start ≡ nextStart s end
+  pub stops : next ≡ start + indexOf e (drop start s)
+
+module _ {e : ℕ} {s : Bytes} {n end start next : ℕ} (v : FoundTo e s n end start next) where
+  found-more : end < length s → start ≡ end + 1
+  unfolding nextStart
+  found-more h = v .starts ∙ rw (lt-ltb end (length s) h)
+
+  found-over : length s ≤ end → start ≡ end
+  unfolding nextStart
+  found-over h = v .starts ∙ rw (le-ltb end (length s) h)
+
+  found-either : {X : Type 0} → (end < length s → X) → (length s ≤ end → X) → X
+  found-either {X} g h = go (ltb end (length s)) refl
+    where
+      go : (b : Bool) → ltb end (length s) ≡ b → X
+      go true k = g (ltb-true end (length s) k)
+      go false k = h (ltb-false end (length s) k)
+
+  -- nothing is left after the end
+  found-none : length s ≤ end → next ≡ end
+  unfolding indexWhere
+  found-none h = v .stops ∙ rw (drop-of-length-le s {i = start} (omega (arith, found-over h))) (omega (arith, found-over h))
+
+  pub found-within : next ≤ length s
+  found-within = found-either (λ h. omega (arith, v .stops, found-more h, find-le e s start (omega (arith, found-more h)))) (λ h. omega (arith, found-none h, v .within))
+
+  pub found-present : present (split e s) n ≡ ltb start next
+  found-present = found-either some none
+    where
+      some : end < length s → present (split e s) n ≡ ltb start next
+      some h =
+          let f : FieldAt e s n start = rw (found-more h) (v .at) in
+          let l : length (take (next - start) (drop start s)) ≡ next - start = omega (arith, length-take (next - start) (drop start s), length-drop start s, found-within) in
+          ap (λ (x : Bytes). not (null x)) (field-at f (v .stops)) ∙ present-length (take (next - start) (drop start s)) ∙ rw l (less (ltb start next) refl)
+        where
+          less : (b : Bool) → ltb start next ≡ b → ltb 0 (next - start) ≡ b
+          less true k = let g = ltb-true start next k in lt-ltb 0 (next - start) (omega arith)
+          less false k = let g = ltb-false start next k in le-ltb 0 (next - start) (omega arith)
+
+      none : length s ≤ end → present (split e s) n ≡ ltb start next
+      none h =
+          let same : start ≡ next = omega (arith, found-over h, found-none h) in
+          ap (λ (x : Bytes). not (null x)) (field-past (v .at) (omega arith) n (le-refl n)) ∙ sym (le-ltb start next (omega arith))
+
+  pub found-next : FieldAt e s (n + 1) (next + 1)
+  found-next =
+      found-either (λ h. let f : FieldAt e s n start = rw (found-more h) (v .at) in field-next f (v .stops))
+      (λ h. rw (found-none h) (field-stay (v .at) (omega arith)))
 
 -- 2. The codes of a place.
 -- code 1 is of an empty value, and codes 4 to 9 are of another

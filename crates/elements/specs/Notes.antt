@@ -1,7 +1,8 @@
 -- Syntax notes: whether one is broken at a place, by an element that it asks for or by one that it shuts out.
-use Prim.Native.Nat.{ℕ}
+use Prim.Native.Nat.{ℕ, zero, suc, _+_, _-_}
 use mathlib.Core.Bool.{Bool, true, false, _||_, not}
 use mathlib.Core.List.{List}
+use Rattle.rules.specs.Base.{any}
 use Rattle.rules.specs.Cutting.{Segment}
 use Rattle.rules.specs.Elements.{lacking, excluded}
 use Rattle.rules.specs.Tables.{Syntax}
@@ -28,3 +29,12 @@ concerns false c = not (isE (c .relation))
 -- the note is broken at place n
 abbrev pub breaks : Segment → ℕ → Syntax → Bool
 breaks s n c = breaksBy s n (c .relation) (c .places)
+
+-- one of the notes is broken at one of count places from place m on
+unfoldable pub breaksFrom : Segment → List Syntax → ℕ → ℕ → Bool
+breaksFrom s notes m zero = false
+breaksFrom s notes m (suc count) = any (breaks s m) notes || breaksFrom s notes (m + 1) count
+
+-- one of the notes is broken at a place before n
+abbrev pub breaksBefore : ℕ → Segment → List Syntax → Bool
+breaksBefore n s notes = breaksFrom s notes 1 (n - 1)

@@ -11,7 +11,7 @@ ghost use Rattle.rules.specs.Numbers.{isDate, isTime};
 ghost use Rattle.tables.specs.Rows as rows;
 ghost use Rattle.tables.specs.Reading.{rowAt, noteAt, entryAt};
 ghost use Rattle.elements.specs.Values.{isText, unlisted, spelledAs, ruleCode, valueCode, takesLength, takes};
-ghost use Rattle.elements.specs.Notes.{isE, breaks, breaksBy, concerns};
+ghost use Rattle.elements.specs.Notes.{isE, breaks, breaksBy, breaksBefore, concerns};
 ghost use Rattle.elements.specs.Places.{nextCode, nextStart, endsField};
 use rules::Delimiters;
 use rules::Kind;
@@ -155,7 +155,7 @@ fn takes_length(n: usize, guide: &[[u16; 6]], k: usize) -> bool
 }
 
 // A value of valid bytes has no code by row k. Most rows ask only for its length, so that is tried first.
-fn takes(e: &[u8], guide: &[[u16; 6]], k: usize) -> bool
+pub fn takes(e: &[u8], guide: &[[u16; 6]], k: usize) -> bool
     ensures { λ r. ⌜ r ≡ takes (rowAt (now (guide .entry)) k) (now (e .entry)) ⌝ }
 {
     if e.len() == 0 {
@@ -457,6 +457,24 @@ fn ends_field(s: &[u8], e: u8, i: usize) -> bool
         return s[i] == e;
     }
     true
+}
+
+// A note of the rows from `from` on is broken at a place before n.
+pub fn breaks_before(s: &[u8], e: u8, guide: &[[u16; 6]], from: usize, n: usize) -> bool
+    ensures { λ r. ⌜ r ≡ breaksBefore n (split e (now (s .entry))) (rows.syntaxIn (drop from (now (guide .entry)))) ⌝ }
+{
+    let notes = first_note(guide, from);
+    let mut end = text::find_near(s, 0, e);
+    let mut m = 1;
+    while m < n {
+        let start = next_start(s, end);
+        end = text::find_near(s, start, e);
+        if breaks_any(s, e, guide, notes, m, start < end) {
+            return true;
+        }
+        m += 1;
+    }
+    false
 }
 
 // The segment has no finding by its entry.

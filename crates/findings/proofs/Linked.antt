@@ -41,7 +41,8 @@ Small n = n < 9223372036854775808
 abbrev Fits : ℕ → Type 0
 Fits n = n < 18446744073709551615
 
-bumped-low : (n : ℕ) → Fits n → bumped n ≡ n + 1
+-- one more, where 64 bits hold it
+pub bumped-low : (n : ℕ) → Fits n → bumped n ≡ n + 1
 bumped-low n h = rw (lt-ltb n 18446744073709551615 h)
 
 pub flat-append : (a b : List Note) → flat (a ++ b) ≡ flat a ++ flat b

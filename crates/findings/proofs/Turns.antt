@@ -119,8 +119,42 @@ module _ (d : Delimiters) (ids : List (List ℕ)) (rows : Guide) (closed : Bool)
     unfolding segmentThen events every
     faulty-told e = rw e
 
-  -- 4. After the last segment.
-  closed-silent : (p : Present) (n : ℕ) → closed ≡ true → silent (walk p n []) ≡ true
+  -- 4. The segments in their order.
+  -- the header: it is told where its elements are faulty, else those after it decide
+  module _ (s : Segment) (ss : List Segment) where
+    abbrev all : List Event
+    all = events (setSlots d ids rows closed 1 (s ∷ ss))
+
+    pub first-faulty : null (findings d (entryAt rows 0) s) ≡ false → null all ≡ false
+    unfolding setSlots events
+    first-faulty f = faulty-told 0 1 s (walk (record { row = 0; used = 1 }) 2 ss) f
+
+    pub first-clean : null (findings d (entryAt rows 0) s) ≡ true → all ≡ events (walk (record { row = 0; used = 1 }) 2 ss)
+    unfolding setSlots events
+    first-clean f = clean-quiet 0 1 s (walk (record { row = 0; used = 1 }) 2 ss) f
+
+  -- one after it: it is told by its standing or by its elements, else those after it decide
+  module _ (p : Present) (n : ℕ) (s : Segment) (ss : List Segment) where
+    pub next-noted : turnOf ids rows p (field s 0) ≡ Noted → silent (walk p n (s ∷ ss)) ≡ false
+    unfolding walkSlots events
+    next-noted e = rw e at (turn-says p n s ss)
+
+    module _ {k uses : ℕ} (e : turnOf ids rows p (field s 0) ≡ Quiet k uses) where
+      abbrev onward : Slots
+      onward = walk (record { row = k; used = uses }) (bumped n) ss
+
+      by-elements : events (walk p n (s ∷ ss)) ≡ events (noted 0 k n s onward)
+      unfolding walkSlots events
+      by-elements = rw e at (turn-says p n s ss)
+
+      pub next-faulty : null (findings d (entryAt rows k) s) ≡ false → silent (walk p n (s ∷ ss)) ≡ false
+      next-faulty f = rw by-elements (faulty-told k n s onward f)
+
+      pub next-clean : null (findings d (entryAt rows k) s) ≡ true → events (walk p n (s ∷ ss)) ≡ events onward
+      next-clean f = by-elements ∙ clean-quiet k n s onward f
+
+  -- 5. After the last segment.
+  pub closed-silent : (p : Present) (n : ℕ) → closed ≡ true → silent (walk p n []) ≡ true
   unfolding walkSlots events
   closed-silent p n e = rw e
 
@@ -140,7 +174,7 @@ module _ (d : Delimiters) (ids : List (List ℕ)) (rows : Guide) (closed : Bool)
       go Again = refl
       go (Later k) = passed k (nextMissing rows (bumped (p .row)) k) (miss-law n [] rows (bumped (p .row)) k)
 
--- 5. At a cursor: the rest of a walk tells what the whole tells.
+-- 6. At a cursor: the rest of a walk tells what the whole tells.
 module _ (set : Bytes) (d : Delimiters) (ids : List (List ℕ)) (rows : Guide) (closed : Bool) where
   abbrev told : List Event
   told = events (remaining set d ids rows closed start)
@@ -159,18 +193,15 @@ module _ (set : Bytes) (d : Delimiters) (ids : List (List ℕ)) (rows : Guide) (
     abbrev header : Segment
     header = split (d .element) (take end set)
 
-    abbrev rest : Slots
-    rest = walkSlots d ids rows closed (record { row = 0; used = 1 }) 2 (segments d (drop (end + 1) set))
-
-    by-header : events (segmentThen d ids rows closed 0 0 1 header rest) ≡ told
-    unfolding remaining start setSlots events
+    by-header : events (setSlots d ids rows closed 1 (header ∷ segments d (drop (end + 1) set))) ≡ told
+    unfolding remaining start
     by-header = let z : end - 0 ≡ end = omega arith in rw (segments-at d set 0 end h q, z)
 
     pub header-faulty : null (findings d (entryAt rows 0) header) ≡ false → null told ≡ false
-    header-faulty f = rw (← by-header) (faulty-told d ids rows closed 0 1 header rest f)
+    header-faulty f = rw (← by-header) (first-faulty d ids rows closed header _ f)
 
     pub header-clean : null (findings d (entryAt rows 0) header) ≡ true → Decides (end + 1) (record { row = 0; used = 1 })
-    header-clean f = record { position = 2; rest = sym (clean-quiet d ids rows closed 0 1 header rest f) ∙ by-header }
+    header-clean f = record { position = 2; rest = sym (first-clean d ids rows closed header _ f) ∙ by-header }
 
   module _ {at : ℕ} {p : Present} (w : Decides at p) where
     module _ {end : ℕ} (h : at < length set) (q : end ≡ at + indexOf (d .terminator) (drop at set)) where
@@ -184,24 +215,16 @@ module _ (set : Bytes) (d : Delimiters) (ids : List (List ℕ)) (rows : Guide) (
       here = rw (segments-at d set at end h q) at (w .rest)
 
       pub turn-noted : turnOf ids rows p (field s 0) ≡ Noted → null told ≡ false
-      unfolding walkSlots events
-      turn-noted e = rw (← here) (rw e at (turn-says d ids rows closed p (w .position) s after))
+      turn-noted e = rw (← here) (next-noted d ids rows closed p (w .position) s after e)
 
       module _ {k uses : ℕ} (e : turnOf ids rows p (field s 0) ≡ Quiet k uses) where
-        abbrev onward : Slots
-        onward = walkSlots d ids rows closed (record { row = k; used = uses }) (bumped (w .position)) after
-
-        by-elements : events (segmentThen d ids rows closed 0 k (w .position) s onward) ≡ told
-        unfolding walkSlots events
-        by-elements = sym (rw e at (turn-says d ids rows closed p (w .position) s after)) ∙ here
-
         pub turn-faulty : null (findings d (entryAt rows k) s) ≡ false → null told ≡ false
-        turn-faulty f = rw (← by-elements) (faulty-told d ids rows closed k (w .position) s onward f)
+        turn-faulty f = rw (← here) (next-faulty d ids rows closed p (w .position) s after e f)
 
         pub turn-clean : null (findings d (entryAt rows k) s) ≡ true → Decides (end + 1) (record { row = k; used = uses })
         turn-clean f = record {
           position = bumped (w .position);
-          rest = sym (clean-quiet d ids rows closed k (w .position) s onward f) ∙ by-elements;
+          rest = sym (next-clean d ids rows closed p (w .position) s after e f) ∙ here;
         }
 
     module _ (h : length set ≤ at) where

@@ -12,12 +12,12 @@ use Rattle.rules.specs.Groups.{supported, edition, tableIn}
 use Rattle.rules.proofs.Open.{everything}
 use Rattle.tables.specs.Reading.{Guide}
 use Rattle.guides.specs.Encoded.{guide006010, guide004010, directoryRows}
-use Rattle.guides.specs.Choice.{hasTables, editionIn, scopeIn, placeIn, placeOf, rowsAt, tableAt, Stands}
+use Rattle.guides.specs.Choice.{hasTables, editionIn, scopeIn, placeIn, placeOf, rowsAt, tableAt, Stands, OrderlyAt}
 use Rattle.guides.specs.declared.Edition.{Edition}
 use Rattle.guides.specs.declared.Edition.the-variants.{E006010, E004010, Other}
 use Rattle.guides.specs.declared.TableAt.{TableAt}
 use Rattle.guides.specs.declared.TableAt.the-variants.{Nowhere}
-use Rattle.guides.proofs.Editions.{means-006010, means-004010, limits-006010, limits-004010}
+use Rattle.guides.proofs.Editions.{means-006010, means-004010, limits-006010, limits-004010, orderly-006010, orderly-004010}
 
 -- the rows of all tables
 abbrev pub allRows : Guide
@@ -86,4 +86,18 @@ table-stands gs st01 = go (supported gs && same st01 (ascii "990")) (editionIn (
   where
     go : (b : Bool) (e : Edition) → Stands allRows (if b then placeIn e else Nowhere)
     go true e = edition-stands e
+    go false e = tt
+
+-- every table is orderly by the directory
+edition-orderly : (e : Edition) → OrderlyAt directoryRows allRows (placeIn e)
+edition-orderly E006010 = rw first-rows orderly-006010
+edition-orderly E004010 = rw later-rows orderly-004010
+edition-orderly Other = tt
+
+pub table-orderly : (gs : Segment) (st01 : Bytes) → OrderlyAt directoryRows allRows (placeOf (scopeIn gs) st01)
+unfolding scopeIn placeOf
+table-orderly gs st01 = go (supported gs && same st01 (ascii "990")) (editionIn (edition gs))
+  where
+    go : (b : Bool) (e : Edition) → OrderlyAt directoryRows allRows (if b then placeIn e else Nowhere)
+    go true e = edition-orderly e
     go false e = tt

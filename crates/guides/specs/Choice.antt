@@ -9,7 +9,7 @@ use Rattle.rules.specs.Cutting.{Segment}
 use Rattle.rules.specs.Tables.{Table}
 use Rattle.rules.specs.Groups.{supported, edition}
 use Rattle.tables.specs.Rows.{tableOf}
-use Rattle.tables.specs.Reading.{Guide, Limits}
+use Rattle.tables.specs.Reading.{Guide, Limits, Orderly}
 use Rattle.guides.specs.declared.Edition.{Edition}
 use Rattle.guides.specs.declared.Edition.the-variants.{E006010, E004010, Other}
 use Rattle.guides.specs.declared.Scope.{Scope}
@@ -63,3 +63,8 @@ pub record Lies (rows : Guide) (from end : ℕ) : Type 0 where
 abbrev pub Stands : Guide → TableAt → Type 0
 Stands rows Nowhere = Unit {0}
 Stands rows (Rows from end) = Lies rows from end
+
+-- what stands at a place is orderly by a directory
+abbrev pub OrderlyAt : List (List ℕ) → Guide → TableAt → Type 0
+OrderlyAt ids rows Nowhere = Unit {0}
+OrderlyAt ids rows (Rows from end) = Orderly ids (rowsAt rows from end)

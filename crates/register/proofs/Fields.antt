@@ -42,7 +42,7 @@ unfolding split
 first-segment e n [] = sym (no-field n)
 first-segment e n (p ∷ ps) = refl
 
-piece-field : (d : Delimiters) (n : ℕ) (bs : Bytes) → fieldIn d n bs ≡ field (split (d .element) (getD (pieces (d .terminator) bs) 0 [])) n
+pub piece-field : (d : Delimiters) (n : ℕ) (bs : Bytes) → fieldIn d n bs ≡ field (split (d .element) (getD (pieces (d .terminator) bs) 0 [])) n
 unfolding fieldIn pieces split
 piece-field d n [] = sym (no-field n)
 piece-field d zero (b ∷ bs) =

@@ -56,7 +56,7 @@ fn control_start(body: &[u8], d: Delimiters, at: usize) -> usize
 }
 
 // Where the field that starts at `at` ends.
-fn field_end(body: &[u8], d: Delimiters, at: usize) -> usize
+pub fn field_end(body: &[u8], d: Delimiters, at: usize) -> usize
     ensures { λ r. ⌜ r ≡ at + length (fieldIn d 0 (drop at (now (body .entry)))) ⌝ }
 {
     let mut i = at;

@@ -185,11 +185,18 @@ module _ (d : Delimiters) (body : Bytes) (at : ℕ) (r : SetAt) (h : at < length
   pub header-at : segments d (drop at body) ≡ split (d .element) (take (r .header - at) (drop at body)) ∷ segments d (drop (r .header + 1) body)
   header-at = segments-at d body at (r .header) h (opened .headed)
 
+  -- its bytes are its header, what follows up to the next ST or SE, and its trailer
+  pub set-whole : {end : ℕ} → end ≡ at + indexOf (d .terminator) (drop at body)
+      → segments d (take (r .end - at) (drop at body))
+      ≡ split (d .element) (take (end - at) (drop at body))
+      ∷ (bodyOf (segments d (drop (end + 1) body)) ++ listed (trailerOf (segments d (drop (end + 1) body))))
+  set-whole e = rw e (opened .whole ∙ rw (segments-new d body at _ h refl))
+
   pub set-is : isST (split (d .element) (take (r .header - at) (drop at body))) ≡ true → SetIs d body at r
   unfolding setIn setsOf outside
   set-is st = record {
     first = rw (header-at, st) (ap (λ (l : List Set). setIn d body at r ∷ l) (after .others));
-    whole = sym (after .whole ∙ rw (segments-new d body at (r .header) h (opened .headed)));
+    whole = sym (set-whole (opened .headed));
     header = refl;
     trailer = after .trailer;
     closed = rw (after .trailer) (closes (r .closed) _);

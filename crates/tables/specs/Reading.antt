@@ -5,13 +5,15 @@ use mathlib.Core.Bool.{Bool, true, _&&_, _||_, not}
 use mathlib.Core.List.{List, [], _∷_}
 use lib.Dec.{eqb, ltb}
 use lib.ListN.{length, getD, take, drop}
-use Rattle.rules.specs.Base.{Bytes, same, all, if_then_else_}
+use Rattle.rules.specs.Base.{Bytes, same, all, any, member, if_then_else_}
 use Rattle.rules.specs.Tables.{Row, Syntax, Entry}
-use Rattle.tables.specs.Rows.{column, isRow, filled, relationOf, codesIn, rowIs, entryIs}
+use Rattle.tables.specs.Rows.{column, isRow, filled, relationOf, codesIn, rowIs, entryIs, idsIn}
 use Rattle.text.specs.Text.{nextWhere, indexOf}
 use Rattle.tables.specs.declared.SegmentId.{SegmentId}
 use Rattle.tables.specs.declared.ElementRow.{ElementRow}
 use Rattle.tables.specs.declared.Places.{Places}
+use Rattle.tables.specs.declared.Due.{Due}
+use Rattle.tables.specs.declared.Due.the-variants as due
 
 -- a table as rows of numbers
 abbrev pub Guide : Type 0
@@ -78,6 +80,12 @@ entryRow rows id = nextWhere (isEntryRow id) rows 0
 unfoldable pub nextMandatory : Guide → ℕ → ℕ → ℕ
 nextMandatory rows k end = nextWhere isMandatoryRow (take end rows) k
 
+-- the next segment row with this id from k on, where no mandatory one stands before it
+unfoldable pub nextDue : Guide → ℕ → Bytes → Due
+nextDue rows k id =
+    let row = nextWhere (λ r. isEntryRow id r || isMandatoryRow r) rows k in
+    if isEntryRow id (getD rows row []) then due.Row row else due.Nothing
+
 -- the id of row k by value, of a number above 255 its low byte, and the bytes that such an id stands for
 unfoldable pub idAt : Guide → ℕ → SegmentId
 idAt rows k = let r = getD rows k [] in record {
@@ -103,3 +111,17 @@ pub record Limits (rows : Guide) : Type 0 where
   pub begins : isRow 1 (getD rows 0 []) ≡ true
   pub few : length rows ≤ mostRows
   pub ids : idsAreBytes rows ≡ true
+
+-- a row is no segment, or its id stands in the directory
+abbrev pub hasKnownId : List (List ℕ) → List ℕ → Bool
+hasKnownId ids r = not (isRow 1 r) || member (filled (idIn r)) (idsIn ids)
+
+-- no two segments have the same id
+unfoldable pub idsDiffer : Guide → Bool
+idsDiffer [] = true
+idsDiffer (r ∷ rs) = (not (isRow 1 r) || not (any (isEntryRow (filled (idIn r))) rs)) && idsDiffer rs
+
+-- What one look at a set may lean on: each segment's id stands in the directory, and no two segments have the same.
+pub record Orderly (ids : List (List ℕ)) (rows : Guide) : Type 0 where
+  pub known : all (hasKnownId ids) rows ≡ true
+  pub differ : idsDiffer rows ≡ true

@@ -7,7 +7,7 @@ ghost use lib.ListN.{getD, drop};
 ghost use Rattle.rules.specs.Base.{same, member, null};
 ghost use Rattle.tables.specs.Rows.{isRow, filled, kindOf, relationOf, idsIn};
 ghost use Rattle.text.specs.Text.{nextWhere, indexOf};
-ghost use Rattle.tables.specs.Reading.{entryAt, rowAt, noteAt, codesAt, idIn, isEntryRow, isMandatoryRow, entryRow, nextMandatory, idAt, rowBelow, elementRow, placesAt};
+ghost use Rattle.tables.specs.Reading.{entryAt, rowAt, noteAt, codesAt, idIn, isEntryRow, isMandatoryRow, entryRow, nextMandatory, idAt, rowBelow, elementRow, placesAt, nextDue};
 use rules::Kind;
 use rules::Relation;
 
@@ -402,4 +402,37 @@ pub fn is_known(id: &[u8], directory: &[[u8; 3]]) -> bool
         k += 1;
     }
     false
+}
+
+// Row k is the segment with this id.
+pub fn is_entry(guide: &[[u16; 6]], k: usize, id: &[u8]) -> bool
+    ensures { λ r. ⌜ r ≡ isEntryRow (now (id .entry)) (getD (now (guide .entry)) k []) ⌝ }
+{
+    if k < guide.len() {
+        return is_entry_row(guide[k], id);
+    }
+    false
+}
+
+// The segment that is due, by its row.
+pub enum Due {
+    Row(usize),
+    Nothing,
+}
+
+// The next segment with this id from row `from` on, where no mandatory one stands before it.
+pub fn next_due(guide: &[[u16; 6]], from: usize, id: &[u8]) -> Due
+    ensures { λ r. ⌜ r ≡ nextDue (now (guide .entry)) from (now (id .entry)) ⌝ }
+{
+    let mut k = from;
+    while k < guide.len() {
+        if is_entry_row(guide[k], id) {
+            return Due::Row(k);
+        }
+        if is_mandatory_row(guide[k]) {
+            return Due::Nothing;
+        }
+        k += 1;
+    }
+    Due::Nothing
 }

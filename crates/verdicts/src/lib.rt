@@ -1,10 +1,12 @@
 // The verdicts: the codes of a set (AK5), and the summary of a group (AK9).
 ghost use mathlib.Core.Path.{_≡_};
+ghost use mathlib.Core.Bool.{_&&_};
 ghost use mathlib.Core.List.{[], _∷_};
 ghost use Prim.Native.Nat.{min};
 ghost use Rattle.rules.specs.Base.{ascii, same, null, if_then_else_};
 ghost use Rattle.rules.specs.Cutting as cutting;
 ghost use Rattle.rules.specs.Cutting.{split};
+ghost use Rattle.rules.specs.Numbers.{declares};
 ghost use Rattle.rules.specs.Sets.{declaredIn};
 ghost use Rattle.rules.specs.Groups as groups;
 ghost use Rattle.verdicts.specs.Collecting.{codesOf, noCodes, withCode, collected};
@@ -87,6 +89,14 @@ fn is_other_count(closed: bool, trailer: &[u8], e: u8, most: usize, n: usize) ->
     ensures { λ r. ⌜ r ≡ otherCount (min most 10) n (trailerIf closed (split e (now (trailer .entry)))) ⌝ }
 {
     closed && !text::declares(field(trailer, e, 1), most, n as u64)
+}
+
+// A set of n segments with this control number is closed by its trailer as it should be.
+pub fn closes(trailer: &[u8], e: u8, n: usize, control: &[u8]) -> bool
+    ensures { λ r. ⌜ r ≡ (declares 10 (cutting.field (split e (now (trailer .entry))) 1) n && same (cutting.field (split e (now (trailer .entry))) 2) (now (control .entry))) ⌝ }
+{
+    text::declares(field(trailer, e, 1), SE01_DIGITS, n as u64)
+        && same_bytes(field(trailer, e, 2), control)
 }
 
 // What a set's codes are made from, beside the bytes of its header and trailer.

@@ -33,7 +33,7 @@ cast-put-block : tie.Need-cast-put-block Inv-loop μ-loop
 cast-put-block c = omega (arith, c .shared-slice-known4 .given (c .before .before .loop .k))
 
 put-block-requires : tie.Need-put-block-requires Inv-loop μ-loop
-put-block-requires c κs = let turn = c .before .before .before .before in let s = seen turn in (s .inside, (seen-set s, turn .before .before .before .before .before .before .pre .1))
+put-block-requires c κs = let turn = c .before .before .before .before in let s = seen turn in (s .headed, (seen-set s, turn .before .before .before .before .before .before .pre .1))
 
 loop-again : tie.Need-loop-again Inv-loop μ-loop
 loop-again c =

@@ -12,7 +12,10 @@ use Rattle.acknowledgment.proofs.response.respond.Statement.{statement}
 use Rattle.acknowledgment.proofs.response.respond.Tie as tie
 
 survey-sets-requires : tie.Need-survey-sets-requires
-survey-sets-requires c κs = sets-open (c .before .before .before .before .before .before .before .before .pre) (c .before .before .before .part2 .ensures) (length-replicate {A = ℕ} 5462 0) (length-replicate {A = ℕ} 5462 0)
+survey-sets-requires c κs =
+    let bytes = c .before .before .before in
+    let entry = bytes .before .before .before .before .before .before .before in
+    (sets-open (entry .pre) (bytes .before .before .part2 .ensures) (bytes .valid-bytes .ensures) (length-replicate {A = ℕ} 5462 0) (length-replicate {A = ℕ} 5462 0), entry .pre .ordered)
 
 -- the length of the response is what was measured
 returns : tie.Need-returns
@@ -20,7 +23,7 @@ returns c =
     let length = c .before in
     let summary = length .before .before in
     let survey = summary .before .before .before .before .before in
-    let parts = survey .before .before .before in
+    let parts = survey .before .before .before .before .before in
     let entry = parts .before .before .before .before .before .before in
     let a = entry .args in
     too-long _ (response (a .i .now) (a .call))
@@ -33,7 +36,7 @@ put-sets-requires c κs =
     let opening = c .before .before .before .before .before .before in
     let length = opening .before .before .before in
     let survey = length .before .before .before .before .before .before .before in
-    let parts = survey .before .before .before in
+    let parts = survey .before .before .before .before .before in
     (survey .survey-sets .ensures, parts .before .before .before .before .before .before .pre .tables)
 
 returns-2 : tie.Need-returns-2
@@ -47,7 +50,7 @@ returns-2 c =
     let length = test .before in
     let summary = length .before .before in
     let survey = summary .before .before .before .before .before in
-    let parts = survey .before .before .before in
+    let parts = survey .before .before .before .before .before in
     let entry = parts .before .before .before .before .before .before in
     let a = entry .args in
     written _ _
@@ -62,6 +65,7 @@ pub respond-spec : {M : Type 1} → statement M
 respond-spec =
     tie.close
     (tie.spec
+    (λ c κs. search needs)
     (λ c κs. search needs)
     (λ c κs. search needs)
     (λ c κs. search needs)

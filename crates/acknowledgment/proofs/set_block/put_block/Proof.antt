@@ -16,6 +16,9 @@ returns c =
     rw (mark-block (a .reading .delimiters) (tableBy (a .directory .now) (a .rows .now) (a .reading .scope) here) here earlier m (test .if1 .taken))
     (c .before .before .put-accepted .ensures)
 
+put-accepted-requires : tie.Need-put-accepted-requires
+put-accepted-requires c κs = let entry = c .before .before .before .before .before .before in (entry .pre .0, entry .pre .1 .0)
+
 put-rejected-requires : tie.Need-put-rejected-requires
 put-rejected-requires c κs =
     let place = c .before .before .before in
@@ -34,7 +37,7 @@ pub put-block-spec : {M : Type 1} → statement M
 put-block-spec =
     tie.close
     (tie.spec
-    (λ c κs. search needs)
+    put-accepted-requires
     (λ c. search needs)
     returns
     (λ c κs. search needs)

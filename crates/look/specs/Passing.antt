@@ -1,0 +1,64 @@
+-- One look at the segment that the bytes begin with: its fields are taken by the rows of its entry, as far as their bytes are valid by a table.
+use Prim.Native.Nat.{ℕ, _+_}
+use mathlib.Core.Bool.{Bool, true, false, _&&_, _||_, not}
+use mathlib.Core.List.{List, [], _∷_}
+use mathlib.Core.Option.{Option, none, some}
+use lib.Dec.{eqb, ltb}
+use lib.ListN.{length, getD, take, drop}
+use Rattle.rules.specs.Base.{Bytes, if_then_else_}
+use Rattle.rules.specs.Cutting.{split}
+use Rattle.rules.specs.declared.Delimiters.{Delimiters}
+use Rattle.text.specs.Text.{indexWhere, nextWhere, part}
+use Rattle.tables.specs.Rows.{isRow, rowIs, codesIn, syntaxIn}
+use Rattle.tables.specs.Reading.{Guide, rowBelow}
+use Rattle.elements.specs.Values.{takes}
+use Rattle.elements.specs.Notes.{breaksBefore}
+use Rattle.look.specs.Bytes.{isOther}
+use Rattle.look.specs.declared.segment.Passed.{Passed}
+use Rattle.look.specs.declared.segment.Passed.the-variants.{Clean, Faulty}
+
+-- where the id ends: at a separator or a terminator, or with the bytes
+unfoldable pub idEnd : Delimiters → Bytes → ℕ
+idEnd d rest = indexWhere (λ b. eqb b (d .element) || eqb b (d .terminator)) rest
+
+-- where a segment's fields were read to: the place of the next one, and where the last one ends
+pub record Stop : Type 0 where
+  pub place : ℕ
+  pub end : ℕ
+
+-- where the field starts that follows the one which ends at `end`: after its separator e; right there where none stands there
+unfoldable pub startAfter : ℕ → Bytes → ℕ → ℕ
+startAfter e rest end = if ltb end (length rest) && eqb (getD rest end 0) e then end + 1 else end
+
+-- the segment ends there: its terminator t stands there, or nothing
+unfoldable pub isOver : ℕ → Bytes → ℕ → Bool
+isOver t rest end = if ltb end (length rest) then eqb (getD rest end 0) t else true
+
+module _ (table : List Bool) (d : Delimiters) (rest : Bytes) where
+  -- where the next field starts, and where its valid bytes end
+  abbrev pub begins : ℕ → ℕ
+  begins end = startAfter (d .element) rest end
+
+  abbrev pub stops : ℕ → ℕ
+  stops end = nextWhere (isOther table) rest (begins end)
+
+  -- the fields of the rows up to the next segment are taken, from place n on, after the field that ends at `end`; none where one is not
+  unfoldable pub readRows : Guide → ℕ → ℕ → Option Stop
+  readRows [] n end = some (record { place = n; end = end })
+  readRows (r ∷ rs) n end =
+      let next = readRows rs (n + 1) (stops end) in
+      let here = readRows rs n end in
+      if isRow 1 r then some (record { place = n; end = end })
+      else (if isRow 2 r then (if takes (rowIs r (codesIn rs)) (part rest (begins end) (stops end)) then next else none)
+      else here)
+
+  -- the segment by the fields that were read: it ends there and breaks no note, or something is found
+  abbrev pub passedBy : Guide → ℕ → Option Stop → Passed
+  passedBy rows below none = Faulty
+  passedBy rows below (some s) =
+      if isOver (d .terminator) rest (s .end) && not (breaksBefore (s .place) (split (d .element) (take (s .end) rest)) (syntaxIn (drop below rows)))
+      then Clean (s .end) (nextWhere (isRow 1) rows below) else Faulty
+
+  -- the segment whose id ends at `id`, by the entry of a row
+  unfoldable pub passed : Guide → ℕ → ℕ → Passed
+  passed rows entry id = let below = rowBelow rows entry in passedBy rows below (readRows (drop below rows) 1 id)
