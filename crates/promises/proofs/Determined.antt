@@ -35,6 +35,7 @@ use Rattle.text.proofs.all_valid.Reads as text-all-valid
 use Rattle.text.proofs.is_text.Reads as text-is-text
 use Rattle.text.proofs.is_name.Reads as text-is-name
 use Rattle.text.proofs.unsigned.Reads as text-unsigned
+use Rattle.text.proofs.is_valid.Reads as text-is-valid
 use Rattle.caller.proofs.call_refusal.Reads as caller-call-refusal
 use Rattle.isa.proofs.read_isa.Reads as isa-read-isa
 use Rattle.isa.proofs.end_refusal.Reads as isa-end-refusal
@@ -52,6 +53,7 @@ use Rattle.group_header.proofs.answer_refusal.Reads as group-header-answer-refu
 use Rattle.sets.proofs.next_set.Reads as sets-next-set
 use Rattle.sets.proofs.set_refusal.Reads as sets-set-refusal
 use Rattle.register.proofs.search.Reads as register-search
+use Rattle.register.proofs.field_end.Reads as register-field-end
 use Rattle.refusals.proofs.group_refusal.Reads as refusals-group-refusal
 use Rattle.refusals.proofs.check.Reads as refusals-check
 use Rattle.tables.proofs.is_segment.Reads as tables-is-segment
@@ -68,6 +70,8 @@ use Rattle.tables.proofs.has_values.Reads as tables-has-values
 use Rattle.tables.proofs.is_listed.Reads as tables-is-listed
 use Rattle.tables.proofs.id_at.Reads as tables-id-at
 use Rattle.tables.proofs.is_known.Reads as tables-is-known
+use Rattle.tables.proofs.is_entry.Reads as tables-is-entry
+use Rattle.tables.proofs.next_due.Reads as tables-next-due
 use Rattle.guides.proofs.directory.Reads as guides-directory
 use Rattle.guides.proofs.rows.Reads as guides-rows
 use Rattle.guides.proofs.Edition.has_tables.Reads as guides-Edition-has-tables
@@ -78,8 +82,11 @@ use Rattle.verdicts.proofs.Codes.none.Reads as verdicts-Codes-none
 use Rattle.verdicts.proofs.Codes.is_empty.Reads as verdicts-Codes-is-empty
 use Rattle.verdicts.proofs.set_codes.Reads as verdicts-set-codes
 use Rattle.verdicts.proofs.summary_of.Reads as verdicts-summary-of
+use Rattle.verdicts.proofs.closes.Reads as verdicts-closes
 use Rattle.elements.proofs.next_code.Reads as elements-next-code
 use Rattle.elements.proofs.is_clean.Reads as elements-is-clean
+use Rattle.elements.proofs.takes.Reads as elements-takes
+use Rattle.elements.proofs.breaks_before.Reads as elements-breaks-before
 use Rattle.findings.proofs.start.Reads as findings-start
 use Rattle.findings.proofs.next.Reads as findings-next
 use Rattle.findings.proofs.is_noted.Reads as findings-is-noted
@@ -105,10 +112,13 @@ use Rattle.blocks.proofs.add_ak2.Reads as blocks-add-ak2
 use Rattle.blocks.proofs.add_ak5.Reads as blocks-add-ak5
 use Rattle.blocks.proofs.add_ak9.Reads as blocks-add-ak9
 use Rattle.blocks.proofs.add_se.Reads as blocks-add-se
+use Rattle.blocks.proofs.put_acceptance.Reads as blocks-put-acceptance
 use Rattle.notes.proofs.put_notes.Reads as notes-put-notes
 use Rattle.acknowledgment.proofs.acknowledge.Reads as acknowledgment-acknowledge
 use Rattle.acknowledgment.proofs.x12_acknowledge.Reads as acknowledgment-x12-acknowledge
 use Rattle.exchange.proofs.exchange.Reads as exchange-exchange
+use Rattle.look.proofs.valid_bytes.Reads as look-valid-bytes
+use Rattle.look.proofs.look_at.Reads as look-look-at
 
 -- 1. A function asks nothing of any arguments, and what a caller sees of its result and of what it lent is the same for any two outcomes that
 -- its contract allows.
@@ -447,3 +457,33 @@ acknowledgment-x12-acknowledge-once =
 -- exchange
 exchange-exchange-once : Determined exchange-exchange.Pre exchange-exchange.Post (λ κs r s. beside r (now (s .1 .0)))
 exchange-exchange-once = ((λ κs a. tt), λ κs a r₁ r₂ s₁ s₂ p q. both-same (p .0 ∙ sym (q .0)) (p .1 ∙ sym (q .1)))
+
+blocks-put-acceptance-once : Determined blocks-put-acceptance.Pre blocks-put-acceptance.Post (λ κs r s. beside r (now (s .0)))
+blocks-put-acceptance-once = ((λ κs a. tt), λ κs a r₁ r₂ s₁ s₂ p q. wrote-once p q)
+
+elements-takes-once : Determined elements-takes.Pre elements-takes.Post (λ κs r s. r)
+elements-takes-once = ((λ κs a. tt), λ κs a r₁ r₂ s₁ s₂ p q. p ∙ sym q)
+
+elements-breaks-before-once : Determined elements-breaks-before.Pre elements-breaks-before.Post (λ κs r s. r)
+elements-breaks-before-once = ((λ κs a. tt), λ κs a r₁ r₂ s₁ s₂ p q. p ∙ sym q)
+
+look-valid-bytes-once : Determined look-valid-bytes.Pre look-valid-bytes.Post (λ κs r s. r)
+look-valid-bytes-once = ((λ κs a. tt), λ κs a r₁ r₂ s₁ s₂ p q. p ∙ sym q)
+
+look-look-at-once : Determined look-look-at.Pre look-look-at.Post (λ κs r s. r)
+look-look-at-once = ((λ κs a. tt), λ κs a r₁ r₂ s₁ s₂ p q. p ∙ sym q)
+
+register-field-end-once : Determined register-field-end.Pre register-field-end.Post (λ κs r s. r)
+register-field-end-once = ((λ κs a. tt), λ κs a r₁ r₂ s₁ s₂ p q. p ∙ sym q)
+
+tables-is-entry-once : Determined tables-is-entry.Pre tables-is-entry.Post (λ κs r s. r)
+tables-is-entry-once = ((λ κs a. tt), λ κs a r₁ r₂ s₁ s₂ p q. p ∙ sym q)
+
+tables-next-due-once : Determined tables-next-due.Pre tables-next-due.Post (λ κs r s. r)
+tables-next-due-once = ((λ κs a. tt), λ κs a r₁ r₂ s₁ s₂ p q. p ∙ sym q)
+
+text-is-valid-once : Determined text-is-valid.Pre text-is-valid.Post (λ κs r s. r)
+text-is-valid-once = ((λ κs a. tt), λ κs a r₁ r₂ s₁ s₂ p q. p ∙ sym q)
+
+verdicts-closes-once : Determined verdicts-closes.Pre verdicts-closes.Post (λ κs r s. r)
+verdicts-closes-once = ((λ κs a. tt), λ κs a r₁ r₂ s₁ s₂ p q. p ∙ sym q)
