@@ -46,8 +46,13 @@ fn is_in_eight(s: &[u8], i: usize, b: u8) -> bool
 pub fn find(s: &[u8], from: usize, b: u8) -> usize
     ensures { λ r. ⌜ r ≡ from + indexOf b (drop from (now (s .entry))) ⌝ }
 {
+    if s.len() < 8 {
+        return find_near(s, from, b);
+    }
+    // From here on fewer than eight bytes are left.
+    let few = s.len() - 7;
     let mut i = from;
-    while i < s.len() && 8 <= s.len() - i {
+    while i < few {
         if is_in_eight(s, i, b) {
             break;
         }

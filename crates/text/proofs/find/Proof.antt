@@ -1,9 +1,8 @@
 -- `text::find` meets its contract.
 use Prim.Native.Nat.{_+_, _-_}
-use mathlib.Core.Path.{_≡_, sym, _∙_}
+use mathlib.Core.Path.{_≡_, refl, sym, _∙_}
 use native.Mathlib.Omega.{arith}
 use borrow.Author.Needs.{needs}
-use borrow.Author.Tests.{leb-true}
 use lib.ListN.{length, drop}
 use Rattle.text.specs.Text.{indexOf}
 use Rattle.text.proofs.Search.{index-past}
@@ -11,37 +10,22 @@ use Rattle.text.proofs.find.Statement.{statement}
 use Rattle.text.proofs.find.Tie as tie
 
 abbrev Inv-loop : tie.InvT-loop
-Inv-loop s from b i₀ i = from + indexOf b (drop from s) ≡ i + indexOf b (drop i s)
+Inv-loop s from b few i₀ i = from + indexOf b (drop from s) ≡ i + indexOf b (drop i s)
 
 abbrev μ-loop : tie.MeasureT-loop
-μ-loop s from b i₀ i = length s - i
-
-loop-holds : tie.Need-loop-holds Inv-loop μ-loop
-loop-holds c = search needs
-
-sub-if1 : tie.Need-sub-if1 Inv-loop μ-loop
-sub-if1 c = search needs
+μ-loop s from b few i₀ i = length s - i
 
 is-in-eight-requires : tie.Need-is-in-eight-requires Inv-loop μ-loop
-is-in-eight-requires c κs = omega (arith, leb-true)
-
-add-i : tie.Need-add-i Inv-loop μ-loop
-add-i c = search needs
-
-loop-less : tie.Need-loop-less Inv-loop μ-loop
-loop-less c = search needs
+is-in-eight-requires c κs = omega arith
 
 loop-again : tie.Need-loop-again Inv-loop μ-loop
 loop-again c =
-    let l = c .before .before .before .before in
-    let a = l .before .before .args in
-    l .loop .inv ∙ index-past (a .b) (a .s .now) (l .loop .i) 8 (omega (arith, leb-true)) (sym (c .before .is-in-eight .ensures) ∙ c .if2 .left)
+    let l = c .before .before .before in
+    let a = l .before .before .before .args in
+    l .loop .inv ∙ index-past (a .b) (a .s .now) (l .loop .i) 8 (omega (arith, c .before .before .loop-test .taken, l .before .if1 .left)) (sym (c .before .is-in-eight .ensures) ∙ c .if2 .left)
 
-find-near-requires : tie.Need-find-near-requires Inv-loop μ-loop
-find-near-requires c κs = search needs
-
-returns : tie.Need-returns Inv-loop μ-loop
-returns c = c .find-near .ensures ∙ sym (c .before .before .loop .inv)
+returns-2 : tie.Need-returns-2 Inv-loop μ-loop
+returns-2 c = c .find-near2 .ensures ∙ sym (c .before .before .loop .inv)
 
 pub find-spec : {M : Type 1} → statement M
 find-spec =
@@ -49,11 +33,13 @@ find-spec =
     (tie.spec
     Inv-loop
     μ-loop
-    loop-holds
-    sub-if1
+    (λ c κs. search needs)
+    (λ c. search needs)
+    (λ c. search needs)
+    (λ c. search needs)
     is-in-eight-requires
-    add-i
-    loop-less
+    (λ c. search needs)
+    (λ c. search needs)
     loop-again
-    find-near-requires
-    returns)
+    (λ c κs. search needs)
+    returns-2)
