@@ -44,6 +44,11 @@ fn faulty_set(number: usize) -> String {
     format!("ST*990*{number:04}~B1*ABCDE*L101*20241315*Q~L11**CN~SE*3*{number:04}~")
 }
 
+/// Clean up to its trailer, which counts a segment too many.
+fn odd_set(number: usize) -> String {
+    format!("ST*990*{number:04}~B1*ABCD*L{number:04}*20240315*A~L11*4711*CN~SE*5*{number:04}~")
+}
+
 fn header(number: usize) -> String {
     format!("ST*990*{number:04}~")
 }
@@ -86,6 +91,10 @@ pub fn answered() -> Vec<Input> {
         .into();
     inputs.extend([
         input("900 faulty sets", group(900, faulty_set)),
+        input(
+            "900 sets, each odd in its last segment",
+            group(900, odd_set),
+        ),
         input("4800 headers, different numbers", group(4800, header)),
         input("4800 headers, the same number", group(4800, |_| header(1))),
         input(
@@ -97,6 +106,12 @@ pub fn answered() -> Vec<Input> {
             headers_of_one_bucket(3600, "AAAA"),
         ),
         input("60000 empty segments", one_set(&"~".repeat(60_000))),
+        input("a set of nothing but B1", one_set(&"B1~".repeat(21_778))),
+        input("a set of nothing but L11", one_set(&"L11~".repeat(16_300))),
+        input(
+            "a last element of 60000 bytes",
+            one_set(&format!("B1*ABCD~L11*{}~", "A".repeat(60_000))),
+        ),
         input(
             "a segment of 60000 separators",
             one_set(&format!("B1{}~", "*".repeat(60_000))),
