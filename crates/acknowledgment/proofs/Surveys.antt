@@ -3,12 +3,12 @@ use mathlib.Core.Path.{_≡_, refl, sym, ap, _∙_}
 use mathlib.Core.Bool.{Bool, true, false}
 use mathlib.Core.List.{List, [], _∷_, _++_}
 use mathlib.Core.Option.{Option}
-use Prim.Native.Nat.{ℕ, zero, suc, _+_, _-_, _<_, _≤_}
+use Prim.Native.Nat.{ℕ, zero, suc, _+_, _-_, _*_, _<_, _≤_}
 use native.Mathlib.Numerals.{add-one}
 use native.Mathlib.Omega.{arith}
 use borrow.Author.Count.{below-none, below-more}
 use lib.Dec.{eqb}
-use lib.ListN.{length, take, drop, getD, set, replicate, length-set}
+use lib.ListN.{length, take, drop, getD, set, replicate, length-set, length-replicate}
 use lib.Seq.{take-suc-set, take-set-le, getD-set-same, getD-set-other}
 use Rattle.rules.specs.Base.{Bytes, member, keep, if_then_else_}
 use Rattle.rules.specs.Cutting.{Segment, field, split, segments}
@@ -32,12 +32,12 @@ use Rattle.sets.proofs.Refused.{good}
 use Rattle.sets.proofs.Number.{sets-number}
 use Rattle.register.specs.declared.Found.{Found}
 use Rattle.register.specs.declared.Found.the-variants.{Free}
-use Rattle.register.specs.Trees.{search, isRepeated, linkedBy}
+use Rattle.register.specs.Trees.{slotOf, search, isRepeated, linkedBy}
 use Rattle.register.proofs.Entered.{Entered, entered-none, entered-finds, entered-inside, entered-next}
 use Rattle.writing.specs.Over.{sat}
 use Rattle.notes.specs.declared.Told.{Told}
 use Rattle.acknowledgment.specs.Writers.{Measures}
-use Rattle.acknowledgment.specs.Surveys.{Room, EnteredNext, setHere, reportAt, reports, remaining, markOf, Marked, Headed, Seen, Surveyed, Open}
+use Rattle.acknowledgment.specs.Surveys.{Room, EnteredNext, setHere, reportAt, reports, remaining, markOf, Marked, Headed, Seen, Surveyed, Open, Cleared}
 use Rattle.acknowledgment.proofs.Reports.{remaining-all, remaining-none, remaining-next, drop-next, mark-accepts}
 use Rattle.acknowledgment.proofs.Turns.{Sofar, sofar-end, sofar-measured, seen-next}
 
@@ -95,24 +95,29 @@ pub record Seeing (d : Delimiters) (table : Set → Option Table) (body : Bytes)
   pub among : a ≤ k
   pub places : length starts ≡ 5462
   pub marked : length marks ≡ 5462
-  pub linked : length links ≡ 22872
+  pub linked : slotOf (length (setsOf (segments d body))) 0 ≤ length links
 
 pub seeing-start : {d : Delimiters} (table : Set → Option Table) {body : Bytes} {valid : List Bool} {rows : Guide} {scope : Scope} {starts marks : List ℕ} (links : List ℕ)
-    → Open d body valid rows scope starts marks → ((s : ℕ) → getD links s 0 ≡ 0) → length links ≡ 22872 → Seeing d table body starts marks links 0 0 0
-seeing-start {d} table {body} {starts = starts} {marks = marks} links o h l = record {
+    → Open d body valid rows scope starts marks → Cleared d body links → Seeing d table body starts marks links 0 0 0
+seeing-start {d} table {body} {starts = starts} {marks = marks} links o c = record {
   rest = sym (remaining-all d table body);
   received = omega arith;
   allowed = rw (remaining-all d table body) (omega arith);
   clean = o .passed .clean;
   headers = o .passed .headers;
   seen = below-none _;
-  entered = entered-none d body starts links h;
+  entered = entered-none d body starts links (c .none);
   few = omega (arith, sets-number d body (o .passed .headers), o .short);
   among = omega arith;
   places = o .places;
   marked = o .marked;
-  linked = l;
+  linked = c .room;
 }
+
+-- the links of an array of zeros that is long enough for the sets of a body
+pub links-cleared : {d : Delimiters} {body : Bytes} {valid : List Bool} {rows : Guide} {scope : Scope} {starts marks : List ℕ} (n : ℕ)
+    → Open d body valid rows scope starts marks → 12300 + 4 * length body ≤ 12 * n → Cleared d body (replicate n 0)
+links-cleared {d} {body} n o h = record { none = zeros-at n; room = omega (arith, sets-number d body (o .passed .headers), length-replicate {A = ℕ} n 0) }
 
 module _ {d : Delimiters} {table : Set → Option Table} {body : Bytes} {starts marks links : List ℕ} {k a at : ℕ}
     (s : Seeing d table body starts marks links k a at) where
@@ -140,7 +145,7 @@ module _ {d : Delimiters} {table : Set → Option Table} {body : Bytes} {starts 
         s .entered,
         record {
           start = omega (arith, s .places);
-          link = omega (arith, s .linked);
+          link = omega (arith, s .linked, ap length ((seeing-set h refl) .first), s .received);
           number = omega arith;
           place = omega arith;
         },
@@ -213,7 +218,7 @@ module _ {d : Delimiters} {table : Set → Option Table} {body : Bytes} {starts 
         among = rw g (either (λ (x : ℕ). x ≤ k + 1) (eqb m 0) (omega (arith, s .among)) (omega (arith, s .among)));
         places = rw (e .stored) (length-set starts k at ∙ s .places);
         marked = length-set marks k m ∙ s .marked;
-        linked = p ∙ s .linked;
+        linked = rw p (s .linked);
       }
 
   pub seeing-end : {n l : ℕ} → length body ≤ at → Sofar d (reports d table body) [] [] n l k

@@ -137,3 +137,8 @@ pub record Open (d : Delimiters) (body : Bytes) (valid : List Bool) (rows : Guid
   pub tables : Scoped rows scope
   pub places : length starts ≡ 5462
   pub marked : length marks ≡ 5462
+
+-- No set is entered in the links, and there are enough of them.
+pub record Cleared (d : Delimiters) (body : Bytes) (links : List ℕ) : Type 0 where
+  pub none : (s : ℕ) → getD links s 0 ≡ 0
+  pub room : slotOf (length (setsOf (segments d body))) 0 ≤ length links
