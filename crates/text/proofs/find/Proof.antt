@@ -16,29 +16,14 @@ Inv-loop s from b i₀ i = from + indexOf b (drop from s) ≡ i + indexOf b (dro
 abbrev μ-loop : tie.MeasureT-loop
 μ-loop s from b i₀ i = length s - i
 
-loop-holds : tie.Need-loop-holds Inv-loop μ-loop
-loop-holds c = search needs
-
-sub-if1 : tie.Need-sub-if1 Inv-loop μ-loop
-sub-if1 c = search needs
-
 is-in-eight-requires : tie.Need-is-in-eight-requires Inv-loop μ-loop
 is-in-eight-requires c κs = omega (arith, leb-true)
-
-add-i : tie.Need-add-i Inv-loop μ-loop
-add-i c = search needs
-
-loop-less : tie.Need-loop-less Inv-loop μ-loop
-loop-less c = search needs
 
 loop-again : tie.Need-loop-again Inv-loop μ-loop
 loop-again c =
     let l = c .before .before .before .before in
     let a = l .before .before .args in
     l .loop .inv ∙ index-past (a .b) (a .s .now) (l .loop .i) 8 (omega (arith, leb-true)) (sym (c .before .is-in-eight .ensures) ∙ c .if2 .left)
-
-find-near-requires : tie.Need-find-near-requires Inv-loop μ-loop
-find-near-requires c κs = search needs
 
 returns : tie.Need-returns Inv-loop μ-loop
 returns c = c .find-near .ensures ∙ sym (c .before .before .loop .inv)
@@ -49,11 +34,11 @@ find-spec =
     (tie.spec
     Inv-loop
     μ-loop
-    loop-holds
-    sub-if1
+    (λ c. search needs)
+    (λ c. search needs)
     is-in-eight-requires
-    add-i
-    loop-less
+    (λ c. search needs)
+    (λ c. search needs)
     loop-again
-    find-near-requires
+    (λ c κs. search needs)
     returns)
