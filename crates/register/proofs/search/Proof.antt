@@ -65,33 +65,15 @@ goes : (c : tie.After-bits-at Inv-loop μ-loop Inv-sets μ-sets)
     → (let a = c .before .before .before .before .before .before .before .before .before .before .before .args in same (a .control .now) (fieldIn (a .d) 0 (drop (c .before .control-start .result) (a .body .now))) ≡ false) → Goes c
 goes c e = (c .before .before .before .before .before .sets .inv .0, omega (arith, small (c .before .before .before .before)), turn false c e)
 
-bucket-of-requires : tie.Need-bucket-of-requires Inv-loop μ-loop Inv-sets μ-sets
-bucket-of-requires c κs = search needs
-
 sets-holds : tie.Need-sets-holds Inv-loop μ-loop Inv-sets μ-sets
 unfolding trees.search
 sets-holds c = (refl, omega arith, rw (c .bucket-of .ensures) refl)
-
-link-at-requires : tie.Need-link-at-requires Inv-loop μ-loop Inv-sets μ-sets
-link-at-requires c κs = search needs
-
-sub-k : tie.Need-sub-k Inv-loop μ-loop Inv-sets μ-sets
-sub-k c = search needs
-
-start-at-requires : tie.Need-start-at-requires Inv-loop μ-loop Inv-sets μ-sets
-start-at-requires c κs = search needs
-
-control-start-requires : tie.Need-control-start-requires Inv-loop μ-loop Inv-sets μ-sets
-control-start-requires c κs = search needs
 
 mul-slot : tie.Need-mul-slot Inv-loop μ-loop Inv-sets μ-sets
 mul-slot c = omega (arith, small (c .before .before .before))
 
 add-slot : tie.Need-add-slot Inv-loop μ-loop Inv-sets μ-sets
 add-slot c = omega (arith, small (c .before .before .before))
-
-bits-at-requires : tie.Need-bits-at-requires Inv-loop μ-loop Inv-sets μ-sets
-bits-at-requires c κs = search needs
 
 add-slot-2 : tie.Need-add-slot-2 Inv-loop μ-loop Inv-sets μ-sets
 add-slot-2 c = omega (arith, small (c .before .before .before .before), bit c)
@@ -115,18 +97,6 @@ loop-holds c =
     let control = c .before .before .before .before .before .before .before .before .before .before .before .before .args .control .now in
     (omega arith, rw (drop-of-length-le control {i = length control} (omega arith), sub-self) refl)
 
-sub-j : tie.Need-sub-j Inv-loop μ-loop Inv-sets μ-sets
-sub-j c = search needs
-
-add-if3 : tie.Need-add-if3 Inv-loop μ-loop Inv-sets μ-sets
-add-if3 c = search needs
-
-shared-slice-read-if3 : tie.Need-shared-slice-read-if3 Inv-loop μ-loop Inv-sets μ-sets
-shared-slice-read-if3 c = search needs
-
-shared-slice-read-if3-2 : tie.Need-shared-slice-read-if3-2 Inv-loop μ-loop Inv-sets μ-sets
-shared-slice-read-if3-2 c = search needs
-
 sets-less-2 : tie.Need-sets-less-2 Inv-loop μ-loop Inv-sets μ-sets
 sets-less-2 c = omega (arith, small (c .before .before .before .before .before .before .before .before .before .before))
 
@@ -137,21 +107,12 @@ sets-again-2 c =
     let a = t .before .before .before .before .before .before .before .before .before .before .before .args in
     goes t (value-differs (a .d) (a .body .now) (t .before .control-start .result) (a .control .now) (l .j - 1) (omega (arith, l .inv .0)) (c .if3 .taken))
 
-loop-less : tie.Need-loop-less Inv-loop μ-loop Inv-sets μ-sets
-loop-less c = search needs
-
 loop-again : tie.Need-loop-again Inv-loop μ-loop Inv-sets μ-sets
 loop-again c =
     let t = c .before .before .before .before .before .before in
     let l = c .before .before .before .before .loop in
     let a = t .before .before .before .before .before .before .before .before .before .before .before .args in
     (omega (arith, l .inv .0), value-turn (a .d) (a .body .now) (t .before .control-start .result) (a .control .now) (l .j) (l .j - 1) (omega arith) (l .inv .0) (c .before .before .before .before .before .if2 .left) (c .if3 .left) (l .inv .1))
-
-field-end-requires : tie.Need-field-end-requires Inv-loop μ-loop Inv-sets μ-sets
-field-end-requires c κs = search needs
-
-add-if4 : tie.Need-add-if4 Inv-loop μ-loop Inv-sets μ-sets
-add-if4 c = search needs
 
 -- all bytes are those of the number: it is the same where the field ends after them
 abbrev Compared : tie.After-field-end Inv-loop μ-loop Inv-sets μ-sets → Type 0
@@ -186,31 +147,31 @@ search-spec =
     μ-loop
     Inv-sets
     μ-sets
-    bucket-of-requires
+    (λ c κs. search needs)
     sets-holds
-    link-at-requires
-    sub-k
-    start-at-requires
-    control-start-requires
+    (λ c κs. search needs)
+    (λ c. search needs)
+    (λ c κs. search needs)
+    (λ c κs. search needs)
     mul-slot
     add-slot
-    bits-at-requires
+    (λ c κs. search needs)
     add-slot-2
     add-i
     sub-if2
     sets-less
     sets-again
     loop-holds
-    sub-j
-    add-if3
-    shared-slice-read-if3
-    shared-slice-read-if3-2
+    (λ c. search needs)
+    (λ c. search needs)
+    (λ c. search needs)
+    (λ c. search needs)
     sets-less-2
     sets-again-2
-    loop-less
+    (λ c. search needs)
     loop-again
-    field-end-requires
-    add-if4
+    (λ c κs. search needs)
+    (λ c. search needs)
     sets-less-3
     sets-again-3
     returns
