@@ -20,7 +20,7 @@ known c = time-digits _ (passed c)
 hours : (c : tie.Else2) → leb (two 0 (c .before .before .before .before .before .before .args .s .now)) 23 ≡ true
 hours c = pair 0 _ _ 23 true (known (c .before .before .before) .only) (c .before .value .ensures) (le-leb _ 23 (c .if2 .left))
 
-minutes : (c : tie.Else3) → leb (two 2 (c .before .before .before .before .before .before .before .before .before .args .s .now)) 59 ≡ true
+minutes : (c : tie.Else3) → (let past-digits = c .before .before .before .before .before .before in leb (two 2 (past-digits .before .before .before .args .s .now)) 59 ≡ true)
 minutes c = pair 2 _ _ 59 true (known (c .before .before .before .before .before .before) .only) (c .before .value2 .ensures) (le-leb _ 59 (c .if3 .left))
 
 returns : tie.Need-returns
@@ -42,10 +42,16 @@ part-value-end-3 : tie.Need-part-value-end-3
 part-value-end-3 c = known (c .before .before .before .before .before .before .before) .seconds (c .if4 .left)
 
 returns-4 : tie.Need-returns-4
-returns-4 c = eq-eqb _ 4 (c .if4 .taken) ∙ sym (time-by _ true true true true (passed (c .before .before .before .before .before .before .before)) (hours (c .before .before .before .before)) (minutes (c .before)) (rw (two-none 4 (c .before .before .before .before .before .before .before .before .before .before .args .s .now) (omega arith))))
+returns-4 c =
+    let past-minutes = c .before in
+    let past-digits = past-minutes .before .before .before .before .before .before in
+    eq-eqb _ 4 (c .if4 .taken) ∙ sym (time-by _ true true true true (passed past-digits) (hours (past-minutes .before .before .before)) (minutes past-minutes) (rw (two-none 4 (past-digits .before .before .before .args .s .now) (omega arith))))
 
 returns-5 : tie.Need-returns-5
-returns-5 c = sym (time-by _ true true true _ (passed (c .before .before .before .before .before .before .before .before .before)) (hours (c .before .before .before .before .before .before)) (minutes (c .before .before .before)) (pair 4 _ _ 59 _ (known (c .before .before .before .before .before .before .before .before .before) .only) (c .value3 .ensures) refl))
+returns-5 c =
+    let past-minutes = c .before .before .before in
+    let past-digits = past-minutes .before .before .before .before .before .before in
+    sym (time-by _ true true true _ (passed past-digits) (hours (past-minutes .before .before .before)) (minutes past-minutes) (pair 4 _ _ 59 _ (known past-digits .only) (c .value3 .ensures) refl))
 
 pub is-time-spec : {M : Type 1} → statement M
 is-time-spec =
