@@ -9,9 +9,6 @@ use Rattle.ack.proofs.Answered.{left-is, starts}
 use Rattle.ack.proofs.write_answer.Statement.{statement}
 use Rattle.ack.proofs.write_answer.Tie as tie
 
-exchange-requires : tie.Need-exchange-requires
-exchange-requires c κs = search needs
-
 slice-reshare-prefix-print : tie.Need-slice-reshare-prefix-print
 slice-reshare-prefix-print c = omega (arith, holds _ _ (c .before .before .exchange .ensures .0) (omega arith))
 
@@ -23,9 +20,6 @@ print-requires c κs =
     let e = c .before .before .before .exchange .ensures in
     starts _ (now (c .before .before .before .before .before .before .before .args .output)) (e .0) (e .1) (search needs)
 
-same-length : tie.Need-same-length
-same-length c = search needs
-
 returns : tie.Need-returns
 returns c =
     let e = c .before .before .before .before .exchange .ensures in
@@ -35,9 +29,9 @@ pub write-answer-spec : {M : Type 1} → statement M
 write-answer-spec =
     tie.close
     (tie.spec
-    exchange-requires
+    (λ c κs. search needs)
     slice-reshare-prefix-print
     slice-aggregate-print
     print-requires
-    same-length
+    (λ c. search needs)
     returns)

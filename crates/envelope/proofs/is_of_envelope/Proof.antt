@@ -20,7 +20,9 @@ returns-3 c = simp (sym (c .before .before .before .before .before .before .befo
 
 returns-4 : tie.Need-returns-4
 unfolding any
-returns-4 c = simp (sym (c .before .before .before .before .before .before .before .before .before .is-named .ensures) ∙ c .before .before .before .before .before .before .before .before .if1 .left, sym (c .before .before .before .before .before .before .is-named2 .ensures) ∙ c .before .before .before .before .before .if2 .left, sym (c .before .before .before .is-named3 .ensures) ∙ c .before .before .if3 .left, or-false) (c .is-named4 .ensures)
+returns-4 c =
+    let past-two = c .before .before .before .before .before in
+    simp (sym (past-two .before .before .before .before .is-named .ensures) ∙ past-two .before .before .before .if1 .left, sym (past-two .before .is-named2 .ensures) ∙ past-two .if2 .left, sym (c .before .before .before .is-named3 .ensures) ∙ c .before .before .if3 .left, or-false) (c .is-named4 .ensures)
 
 pub is-of-envelope-spec : {M : Type 1} → statement M
 is-of-envelope-spec =

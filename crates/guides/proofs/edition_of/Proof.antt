@@ -4,24 +4,9 @@ use borrow.Author.Needs.{needs}
 use Rattle.guides.proofs.edition_of.Statement.{statement}
 use Rattle.guides.proofs.edition_of.Tie as tie
 
-part-requires : tie.Need-part-requires
-part-requires c κs = search needs
-
-slice-aggregate-same-bytes : tie.Need-slice-aggregate-same-bytes
-slice-aggregate-same-bytes c = search needs
-
-same-bytes-requires : tie.Need-same-bytes-requires
-same-bytes-requires c κs = search needs
-
 returns : tie.Need-returns
 unfolding editionIn
 returns c = rw (← c .before .before .before .part .ensures, ← c .before .same-bytes .ensures, c .if1 .taken)
-
-slice-aggregate-same-bytes-2 : tie.Need-slice-aggregate-same-bytes-2
-slice-aggregate-same-bytes-2 c = search needs
-
-same-bytes-requires-2 : tie.Need-same-bytes-requires-2
-same-bytes-requires-2 c κs = search needs
 
 returns-2 : tie.Need-returns-2
 unfolding editionIn
@@ -35,11 +20,11 @@ pub edition-of-spec : {M : Type 1} → statement M
 edition-of-spec =
     tie.close
     (tie.spec
-    part-requires
-    slice-aggregate-same-bytes
-    same-bytes-requires
+    (λ c κs. search needs)
+    (λ c. search needs)
+    (λ c κs. search needs)
     returns
-    slice-aggregate-same-bytes-2
-    same-bytes-requires-2
+    (λ c. search needs)
+    (λ c κs. search needs)
     returns-2
     returns-3)

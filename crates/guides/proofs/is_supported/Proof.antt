@@ -6,18 +6,6 @@ use borrow.Author.Needs.{needs}
 use Rattle.guides.proofs.is_supported.Statement.{statement}
 use Rattle.guides.proofs.is_supported.Tie as tie
 
-slice-aggregate-same-bytes : tie.Need-slice-aggregate-same-bytes
-slice-aggregate-same-bytes c = search needs
-
-same-bytes-requires : tie.Need-same-bytes-requires
-same-bytes-requires c κs = search needs
-
-slice-aggregate-same-bytes-2 : tie.Need-slice-aggregate-same-bytes-2
-slice-aggregate-same-bytes-2 c = search needs
-
-same-bytes-requires-2 : tie.Need-same-bytes-requires-2
-same-bytes-requires-2 c κs = search needs
-
 returns : tie.Need-returns
 unfolding any
 returns c = rw (sym (c .before .same-bytes .ensures) ∙ c .if1 .taken) (c .if1 .taken)
@@ -30,9 +18,9 @@ pub is-supported-spec : {M : Type 1} → statement M
 is-supported-spec =
     tie.close
     (tie.spec
-    slice-aggregate-same-bytes
-    same-bytes-requires
-    slice-aggregate-same-bytes-2
-    same-bytes-requires-2
+    (λ c. search needs)
+    (λ c κs. search needs)
+    (λ c. search needs)
+    (λ c κs. search needs)
     returns
     returns-2)

@@ -31,10 +31,14 @@ unfolding hasISA
 loop-holds c = rw (← c .before .before .before .part .ensures, sym (c .before .same-bytes .ensures) ∙ not-false _ (c .if1 .left))
 
 returns-2 : tie.Need-returns-2 Inv-loop μ-loop
-returns-2 c = sym (c .before .before .before .before .before .loop .inv ∙ test-step (separated (c .before .before .before .before .before .before .before .before .before .before .before .args .i .now)) _ sixteen _ 0 (c .before .before .before .separator .result) false (c .before .before .before .before .loop-test .taken) (c .before .before .before .separator .ensures) (rw (← c .before .before .byte-at .ensures, ← c .before .byte-at2 .ensures) (ne-eqb _ _ (c .if2 .taken))))
+returns-2 c =
+    let head = c .before .before .before .before .before in
+    sym (head .loop .inv ∙ test-step (separated (head .before .before .before .before .before .before .args .i .now)) _ sixteen _ 0 (c .before .before .before .separator .result) false (c .before .before .before .before .loop-test .taken) (c .before .before .before .separator .ensures) (rw (← c .before .before .byte-at .ensures, ← c .before .byte-at2 .ensures) (ne-eqb _ _ (c .if2 .taken))))
 
 loop-again : tie.Need-loop-again Inv-loop μ-loop
-loop-again c = c .before .before .before .before .before .loop .inv ∙ test-step (separated (c .before .before .before .before .before .before .before .before .before .before .before .args .i .now)) _ sixteen _ 0 (c .before .before .before .separator .result) true (c .before .before .before .before .loop-test .taken) (c .before .before .before .separator .ensures) (rw (← c .before .before .byte-at .ensures, ← c .before .byte-at2 .ensures) (eq-eqb _ _ (c .if2 .left)))
+loop-again c =
+    let head = c .before .before .before .before .before in
+    head .loop .inv ∙ test-step (separated (head .before .before .before .before .before .before .args .i .now)) _ sixteen _ 0 (c .before .before .before .separator .result) true (c .before .before .before .before .loop-test .taken) (c .before .before .before .separator .ensures) (rw (← c .before .before .byte-at .ensures, ← c .before .byte-at2 .ensures) (eq-eqb _ _ (c .if2 .left)))
 
 returns-3 : tie.Need-returns-3 Inv-loop μ-loop
 returns-3 c = sym (c .before .loop .inv ∙ test-end _ _ sixteen _ (c .loop-test .left))

@@ -9,17 +9,8 @@ use Rattle.register.specs.Trees.{bitsAt}
 use Rattle.register.proofs.bits_at.Statement.{statement}
 use Rattle.register.proofs.bits_at.Tie as tie
 
-shared-slice-read-result : tie.Need-shared-slice-read-result
-shared-slice-read-result c = search needs
-
 cast-result : tie.Need-cast-result
 cast-result c = omega (arith, c .shared-slice-known .given (c .before .before .args .i / 4))
-
-mul-result : tie.Need-mul-result
-mul-result c = search needs
-
-shr-result : tie.Need-shr-result
-shr-result c = search needs
 
 returns : tie.Need-returns
 unfolding bitsAt
@@ -32,4 +23,4 @@ returns-2 c =
 
 pub bits-at-spec : {M : Type 1} → statement M
 bits-at-spec =
-    tie.close (tie.spec shared-slice-read-result cast-result mul-result shr-result returns returns-2)
+    tie.close (tie.spec (λ c. search needs) cast-result (λ c. search needs) (λ c. search needs) returns returns-2)

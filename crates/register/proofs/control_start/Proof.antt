@@ -5,16 +5,10 @@ use Rattle.register.proofs.Fields.{control-field}
 use Rattle.register.proofs.control_start.Statement.{statement}
 use Rattle.register.proofs.control_start.Tie as tie
 
-next-field-requires : tie.Need-next-field-requires
-next-field-requires c κs = search needs
-
-next-field-requires-2 : tie.Need-next-field-requires-2
-next-field-requires-2 c κs = search needs
-
 returns : tie.Need-returns
 returns c =
     let a = c .before .before .before .args in
     (c .next-field2 .ensures .0, control-field (a .d) (a .body .now) (a .at) ∙ c .before .next-field .ensures .1 1 ∙ c .next-field2 .ensures .1 0)
 
 pub control-start-spec : {M : Type 1} → statement M
-control-start-spec = tie.close (tie.spec next-field-requires next-field-requires-2 returns)
+control-start-spec = tie.close (tie.spec (λ c κs. search needs) (λ c κs. search needs) returns)

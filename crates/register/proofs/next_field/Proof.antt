@@ -18,17 +18,8 @@ abbrev μ-loop : tie.MeasureT-loop
 loop-holds : tie.Need-loop-holds Inv-loop μ-loop
 loop-holds c = λ n. refl
 
-shared-slice-read-b : tie.Need-shared-slice-read-b Inv-loop μ-loop
-shared-slice-read-b c = search needs
-
-add-i : tie.Need-add-i Inv-loop μ-loop
-add-i c = search needs
-
 returns : tie.Need-returns Inv-loop μ-loop
 returns c = (search needs, λ n. c .before .before .before .before .before .before .loop .inv n ∙ field-next _ _ _ (c .before .before .before .before .before .loop-test .taken) (c .before .before .if1 .left) n (c .if2 .taken))
-
-loop-less : tie.Need-loop-less Inv-loop μ-loop
-loop-less c = search needs
 
 loop-again : tie.Need-loop-again Inv-loop μ-loop
 loop-again c = λ n. c .before .before .before .before .before .before .loop .inv n ∙ field-skip _ _ _ (c .before .before .before .before .before .loop-test .taken) (c .before .before .if1 .left) n (c .if2 .left)
@@ -48,10 +39,10 @@ next-field-spec =
     Inv-loop
     μ-loop
     loop-holds
-    shared-slice-read-b
-    add-i
+    (λ c. search needs)
+    (λ c. search needs)
     returns
-    loop-less
+    (λ c. search needs)
     loop-again
     returns-2
     returns-3)

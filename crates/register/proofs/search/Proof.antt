@@ -40,58 +40,42 @@ bit c = rw (c .bits-at .ensures) (bits-below _ _)
 -- one turn: the number is that of the set, as q says
 abbrev Turn : Bool → tie.After-bits-at Inv-loop μ-loop Inv-sets μ-sets → Type 0
 Turn q c =
-    let a = c .before .before .before .before .before .before .before .before .before .before .before .args in
-    let s = c .before .before .before .before .before .sets in
+    let head = c .before .before .before .before .before in
+    let a = head .before .before .before .before .before .before .args in
+    let s = head .sets in
     let link = c .before .before .before .before .link-at .result in
     trees.search (a .d) (a .body .now) (a .starts .now) (a .links .now) (a .control .now)
     ≡ trees.foundAt false q (s .slot) (trees.walk (65536 - (s .i + 1)) (a .d) (a .body .now) (a .starts .now) (a .links .now) (a .control .now) (trees.slotOf (link - 1) (c .bits-at .result)) link (s .i + 1))
 
 turn : (q : Bool) (c : tie.After-bits-at Inv-loop μ-loop Inv-sets μ-sets)
-    → (let a = c .before .before .before .before .before .before .before .before .before .before .before .args in same (a .control .now) (fieldIn (a .d) 0 (drop (c .before .control-start .result) (a .body .now))) ≡ q) → Turn q c
+    → (let head = c .before .before .before .before .before in let a = head .before .before .before .before .before .before .args in same (a .control .now) (fieldIn (a .d) 0 (drop (c .before .control-start .result) (a .body .now))) ≡ q) → Turn q c
 turn q c e =
-    let l = c .before .before .before .before .before in
-    l .sets .inv .2
-    ∙ search-step _ _ _ _ _ _ q (small (c .before .before .before .before)) (l .sets .inv .1) (c .before .before .before .if1 .left) (c .before .before .before .before .link-at .ensures) (c .bits-at .ensures) (c .before .before .start-at .ensures) (sym (c .before .control-start .ensures .1)) e
+    let head = c .before .before .before .before .before in
+    head .sets .inv .2
+    ∙ search-step _ _ _ _ _ _ q (small (c .before .before .before .before)) (head .sets .inv .1) (c .before .before .before .if1 .left) (c .before .before .before .before .link-at .ensures) (c .bits-at .ensures) (c .before .before .start-at .ensures) (sym (c .before .control-start .ensures .1)) e
 
 -- the search goes on after a set with another number
 abbrev Goes : tie.After-bits-at Inv-loop μ-loop Inv-sets μ-sets → Type 0
 Goes c =
-    let a = c .before .before .before .before .before .before .before .before .before .before .before .args in
-    let s = c .before .before .before .before .before .sets in
+    let head = c .before .before .before .before .before in
+    let a = head .before .before .before .before .before .before .args in
+    let s = head .sets in
     let link = c .before .before .before .before .link-at .result in
     (s .found ≡ Repeated) × (s .i + 1 ≤ link) × (trees.search (a .d) (a .body .now) (a .starts .now) (a .links .now) (a .control .now) ≡ trees.walk (65536 - (s .i + 1)) (a .d) (a .body .now) (a .starts .now) (a .links .now) (a .control .now) (trees.slotOf (link - 1) (c .bits-at .result)) link (s .i + 1))
 
 goes : (c : tie.After-bits-at Inv-loop μ-loop Inv-sets μ-sets)
-    → (let a = c .before .before .before .before .before .before .before .before .before .before .before .args in same (a .control .now) (fieldIn (a .d) 0 (drop (c .before .control-start .result) (a .body .now))) ≡ false) → Goes c
+    → (let head = c .before .before .before .before .before in let a = head .before .before .before .before .before .before .args in same (a .control .now) (fieldIn (a .d) 0 (drop (c .before .control-start .result) (a .body .now))) ≡ false) → Goes c
 goes c e = (c .before .before .before .before .before .sets .inv .0, omega (arith, small (c .before .before .before .before)), turn false c e)
-
-bucket-of-requires : tie.Need-bucket-of-requires Inv-loop μ-loop Inv-sets μ-sets
-bucket-of-requires c κs = search needs
 
 sets-holds : tie.Need-sets-holds Inv-loop μ-loop Inv-sets μ-sets
 unfolding trees.search
 sets-holds c = (refl, omega arith, rw (c .bucket-of .ensures) refl)
-
-link-at-requires : tie.Need-link-at-requires Inv-loop μ-loop Inv-sets μ-sets
-link-at-requires c κs = search needs
-
-sub-k : tie.Need-sub-k Inv-loop μ-loop Inv-sets μ-sets
-sub-k c = search needs
-
-start-at-requires : tie.Need-start-at-requires Inv-loop μ-loop Inv-sets μ-sets
-start-at-requires c κs = search needs
-
-control-start-requires : tie.Need-control-start-requires Inv-loop μ-loop Inv-sets μ-sets
-control-start-requires c κs = search needs
 
 mul-slot : tie.Need-mul-slot Inv-loop μ-loop Inv-sets μ-sets
 mul-slot c = omega (arith, small (c .before .before .before))
 
 add-slot : tie.Need-add-slot Inv-loop μ-loop Inv-sets μ-sets
 add-slot c = omega (arith, small (c .before .before .before))
-
-bits-at-requires : tie.Need-bits-at-requires Inv-loop μ-loop Inv-sets μ-sets
-bits-at-requires c κs = search needs
 
 add-slot-2 : tie.Need-add-slot-2 Inv-loop μ-loop Inv-sets μ-sets
 add-slot-2 c = omega (arith, small (c .before .before .before .before), bit c)
@@ -107,67 +91,54 @@ sets-less c = omega (arith, small (c .before .before .before .before .before))
 
 sets-again : tie.Need-sets-again Inv-loop μ-loop Inv-sets μ-sets
 sets-again c =
-    let a = c .before .before .before .before .before .before .before .before .before .before .before .before .args in
+    let head = c .before .before .before .before .before .before in
+    let a = head .before .before .before .before .before .before .args in
     goes (c .before) (value-longer (a .d) (a .body .now) (c .before .before .control-start .result) (a .control .now) (c .if2 .taken))
 
 loop-holds : tie.Need-loop-holds Inv-loop μ-loop Inv-sets μ-sets
 loop-holds c =
-    let control = c .before .before .before .before .before .before .before .before .before .before .before .before .args .control .now in
+    let head = c .before .before .before .before .before .before in
+    let control = head .before .before .before .before .before .before .args .control .now in
     (omega arith, rw (drop-of-length-le control {i = length control} (omega arith), sub-self) refl)
 
-sub-j : tie.Need-sub-j Inv-loop μ-loop Inv-sets μ-sets
-sub-j c = search needs
-
-add-if3 : tie.Need-add-if3 Inv-loop μ-loop Inv-sets μ-sets
-add-if3 c = search needs
-
-shared-slice-read-if3 : tie.Need-shared-slice-read-if3 Inv-loop μ-loop Inv-sets μ-sets
-shared-slice-read-if3 c = search needs
-
-shared-slice-read-if3-2 : tie.Need-shared-slice-read-if3-2 Inv-loop μ-loop Inv-sets μ-sets
-shared-slice-read-if3-2 c = search needs
-
 sets-less-2 : tie.Need-sets-less-2 Inv-loop μ-loop Inv-sets μ-sets
-sets-less-2 c = omega (arith, small (c .before .before .before .before .before .before .before .before .before .before))
+sets-less-2 c = let t = c .before .before .before .before .before .before in omega (arith, small (t .before .before .before .before))
 
 sets-again-2 : tie.Need-sets-again-2 Inv-loop μ-loop Inv-sets μ-sets
 sets-again-2 c =
     let t = c .before .before .before .before .before .before in
     let l = c .before .before .before .before .loop in
-    let a = t .before .before .before .before .before .before .before .before .before .before .before .args in
+    let head = t .before .before .before .before .before in
+    let a = head .before .before .before .before .before .before .args in
     goes t (value-differs (a .d) (a .body .now) (t .before .control-start .result) (a .control .now) (l .j - 1) (omega (arith, l .inv .0)) (c .if3 .taken))
-
-loop-less : tie.Need-loop-less Inv-loop μ-loop Inv-sets μ-sets
-loop-less c = search needs
 
 loop-again : tie.Need-loop-again Inv-loop μ-loop Inv-sets μ-sets
 loop-again c =
     let t = c .before .before .before .before .before .before in
     let l = c .before .before .before .before .loop in
-    let a = t .before .before .before .before .before .before .before .before .before .before .before .args in
+    let head = t .before .before .before .before .before in
+    let a = head .before .before .before .before .before .before .args in
     (omega (arith, l .inv .0), value-turn (a .d) (a .body .now) (t .before .control-start .result) (a .control .now) (l .j) (l .j - 1) (omega arith) (l .inv .0) (c .before .before .before .before .before .if2 .left) (c .if3 .left) (l .inv .1))
-
-field-end-requires : tie.Need-field-end-requires Inv-loop μ-loop Inv-sets μ-sets
-field-end-requires c κs = search needs
-
-add-if4 : tie.Need-add-if4 Inv-loop μ-loop Inv-sets μ-sets
-add-if4 c = search needs
 
 -- all bytes are those of the number: it is the same where the field ends after them
 abbrev Compared : tie.After-field-end Inv-loop μ-loop Inv-sets μ-sets → Type 0
 Compared c =
-    let a = c .before .before .before .before .before .before .before .before .before .before .before .before .before .before .before .args in
-    let start = c .before .before .before .before .before .control-start .result in
+    let t = c .before .before .before .before in
+    let head = t .before .before .before .before .before in
+    let a = head .before .before .before .before .before .before .args in
+    let start = t .before .control-start .result in
     let earlier = fieldIn (a .d) 0 (drop start (a .body .now)) in
     same (a .control .now) earlier ≡ eqb (c .field-end .result) (start + length (a .control .now))
 
 compared : (c : tie.After-field-end Inv-loop μ-loop Inv-sets μ-sets) → Compared c
 compared c =
-    let a = c .before .before .before .before .before .before .before .before .before .before .before .before .before .before .before .args in
-    rw (c .field-end .ensures) (value-ends (a .d) (a .body .now) (c .before .before .before .before .before .control-start .result) (a .control .now) _ (c .before .loop-test .left) (c .before .before .loop .inv .1))
+    let t = c .before .before .before .before in
+    let head = t .before .before .before .before .before in
+    let a = head .before .before .before .before .before .before .args in
+    rw (c .field-end .ensures) (value-ends (a .d) (a .body .now) (t .before .control-start .result) (a .control .now) _ (c .before .loop-test .left) (c .before .before .loop .inv .1))
 
 sets-less-3 : tie.Need-sets-less-3 Inv-loop μ-loop Inv-sets μ-sets
-sets-less-3 c = omega (arith, small (c .before .before .before .before .before .before .before .before .before))
+sets-less-3 c = let t = c .before .before .before .before .before in omega (arith, small (t .before .before .before .before))
 
 sets-again-3 : tie.Need-sets-again-3 Inv-loop μ-loop Inv-sets μ-sets
 sets-again-3 c = goes (c .before .before .before .before .before) (compared (c .before) ∙ ne-eqb _ _ (c .if4 .taken))
@@ -176,7 +147,9 @@ returns : tie.Need-returns Inv-loop μ-loop Inv-sets μ-sets
 returns c = sym (c .before .before .sets .inv .2 ∙ walk-ends _ _ _ _ _ _ _ _ _ (rw (c .before .link-at .ensures) at (c .if1 .taken)))
 
 returns-2 : tie.Need-returns-2 Inv-loop μ-loop Inv-sets μ-sets
-returns-2 c = c .before .before .before .before .before .before .before .before .before .before .sets .inv .0 ∙ sym (turn true (c .before .before .before .before .before) (compared (c .before) ∙ eq-eqb _ _ (c .if4 .left)))
+returns-2 c =
+    let t = c .before .before .before .before .before in
+    t .before .before .before .before .before .sets .inv .0 ∙ sym (turn true t (compared (c .before) ∙ eq-eqb _ _ (c .if4 .left)))
 
 pub search-spec : {M : Type 1} → statement M
 search-spec =
@@ -186,31 +159,31 @@ search-spec =
     μ-loop
     Inv-sets
     μ-sets
-    bucket-of-requires
+    (λ c κs. search needs)
     sets-holds
-    link-at-requires
-    sub-k
-    start-at-requires
-    control-start-requires
+    (λ c κs. search needs)
+    (λ c. search needs)
+    (λ c κs. search needs)
+    (λ c κs. search needs)
     mul-slot
     add-slot
-    bits-at-requires
+    (λ c κs. search needs)
     add-slot-2
     add-i
     sub-if2
     sets-less
     sets-again
     loop-holds
-    sub-j
-    add-if3
-    shared-slice-read-if3
-    shared-slice-read-if3-2
+    (λ c. search needs)
+    (λ c. search needs)
+    (λ c. search needs)
+    (λ c. search needs)
     sets-less-2
     sets-again-2
-    loop-less
+    (λ c. search needs)
     loop-again
-    field-end-requires
-    add-if4
+    (λ c κs. search needs)
+    (λ c. search needs)
     sets-less-3
     sets-again-3
     returns

@@ -19,44 +19,14 @@ abbrev μ-loop : tie.MeasureT-loop
 loop-holds : tie.Need-loop-holds Inv-loop μ-loop
 loop-holds c = (omega arith, omega arith, field-first)
 
-find-near-requires : tie.Need-find-near-requires Inv-loop μ-loop
-find-near-requires c κs = search needs
-
-sub-result : tie.Need-sub-result Inv-loop μ-loop
-sub-result c = search needs
-
-part-result-start : tie.Need-part-result-start Inv-loop μ-loop
-part-result-start c = search needs
-
-part-result-end : tie.Need-part-result-end Inv-loop μ-loop
-part-result-end c = search needs
-
 returns : tie.Need-returns Inv-loop μ-loop
 returns c =
     let start = c .before .before .before .before .before .before in
     let next = field-next (c .before .before .before .before .loop .inv .2) (c .before .before .find-near .ensures) in
     sym (field-past next (omega arith) (start .args .n) (omega arith))
 
-add-at : tie.Need-add-at Inv-loop μ-loop
-add-at c = search needs
-
-add-i : tie.Need-add-i Inv-loop μ-loop
-add-i c = search needs
-
-loop-less : tie.Need-loop-less Inv-loop μ-loop
-loop-less c = search needs
-
 loop-again : tie.Need-loop-again Inv-loop μ-loop
 loop-again c = (omega arith, omega arith, field-next (c .before .before .before .loop .inv .2) (c .before .find-near .ensures))
-
-find-near-requires-2 : tie.Need-find-near-requires-2 Inv-loop μ-loop
-find-near-requires-2 c κs = search needs
-
-sub-result-2 : tie.Need-sub-result-2 Inv-loop μ-loop
-sub-result-2 c = search needs
-
-part-result-start-2 : tie.Need-part-result-start-2 Inv-loop μ-loop
-part-result-start-2 c = search needs
 
 part-result-end-2 : tie.Need-part-result-end-2 Inv-loop μ-loop
 part-result-end-2 c =
@@ -78,17 +48,17 @@ field-spec =
     Inv-loop
     μ-loop
     loop-holds
-    find-near-requires
-    sub-result
-    part-result-start
-    part-result-end
+    (λ c κs. search needs)
+    (λ c. search needs)
+    (λ c. search needs)
+    (λ c. search needs)
     returns
-    add-at
-    add-i
-    loop-less
+    (λ c. search needs)
+    (λ c. search needs)
+    (λ c. search needs)
     loop-again
-    find-near-requires-2
-    sub-result-2
-    part-result-start-2
+    (λ c κs. search needs)
+    (λ c. search needs)
+    (λ c. search needs)
     part-result-end-2
     returns-2)

@@ -17,17 +17,11 @@ Inv-loop s e name i₀ i = isNamed name (split e s) ≡ isNamed (drop i name) (s
 abbrev μ-loop : tie.MeasureT-loop
 μ-loop s e name i₀ i = length name - i
 
-loop-holds : tie.Need-loop-holds Inv-loop μ-loop
-loop-holds c = search needs
-
 returns : tie.Need-returns Inv-loop μ-loop
 returns c =
     let l = c .before .before in
     let a = l .before .args in
     sym (l .loop .inv ∙ named-short (a .e) (a .s .now) (l .loop .i) (a .name .now) (omega arith) (omega arith))
-
-shared-slice-read-if2 : tie.Need-shared-slice-read-if2 Inv-loop μ-loop
-shared-slice-read-if2 c = search needs
 
 returns-2 : tie.Need-returns-2 Inv-loop μ-loop
 returns-2 c =
@@ -35,23 +29,11 @@ returns-2 c =
     let a = l .before .args in
     sym (l .loop .inv ∙ named-cut (a .e) (a .s .now) (l .loop .i) (a .name .now) (omega arith) (omega arith) (c .if2 .taken))
 
-shared-slice-read-if3 : tie.Need-shared-slice-read-if3 Inv-loop μ-loop
-shared-slice-read-if3 c = search needs
-
-shared-slice-read-if3-2 : tie.Need-shared-slice-read-if3-2 Inv-loop μ-loop
-shared-slice-read-if3-2 c = search needs
-
 returns-3 : tie.Need-returns-3 Inv-loop μ-loop
 returns-3 c =
     let l = c .before .before .before .before .before .before .before in
     let a = l .before .args in
     sym (l .loop .inv ∙ named-step (a .e) (a .s .now) (l .loop .i) (a .name .now) false (omega arith) (omega arith) (c .before .before .before .if2 .left) (ne-eqb _ _ (c .if3 .taken)))
-
-add-i : tie.Need-add-i Inv-loop μ-loop
-add-i c = search needs
-
-loop-less : tie.Need-loop-less Inv-loop μ-loop
-loop-less c = search needs
 
 loop-again : tie.Need-loop-again Inv-loop μ-loop
 loop-again c =
@@ -65,9 +47,6 @@ returns-4 c =
     let a = l .before .args in
     sym (l .loop .inv ∙ named-whole (a .e) (a .s .now) (l .loop .i) (a .name .now) (omega arith) (omega arith))
 
-shared-slice-read-result : tie.Need-shared-slice-read-result Inv-loop μ-loop
-shared-slice-read-result c = search needs
-
 returns-5 : tie.Need-returns-5 Inv-loop μ-loop
 returns-5 c =
     let l = c .before .before .before in
@@ -80,16 +59,16 @@ is-named-spec =
     (tie.spec
     Inv-loop
     μ-loop
-    loop-holds
+    (λ c. search needs)
     returns
-    shared-slice-read-if2
+    (λ c. search needs)
     returns-2
-    shared-slice-read-if3
-    shared-slice-read-if3-2
+    (λ c. search needs)
+    (λ c. search needs)
     returns-3
-    add-i
-    loop-less
+    (λ c. search needs)
+    (λ c. search needs)
     loop-again
     returns-4
-    shared-slice-read-result
+    (λ c. search needs)
     returns-5)

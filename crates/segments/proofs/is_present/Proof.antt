@@ -7,11 +7,8 @@ use borrow.Author.Needs.{needs}
 use Rattle.segments.proofs.is_present.Statement.{statement}
 use Rattle.segments.proofs.is_present.Tie as tie
 
-field-requires : tie.Need-field-requires
-field-requires c κs = search needs
-
 returns : tie.Need-returns
 returns c = sym (present-length (c .field .result .now)) ∙ ap (λ (l : Bytes). not (null l)) (c .field .ensures)
 
 pub is-present-spec : {M : Type 1} → statement M
-is-present-spec = tie.close (tie.spec field-requires returns)
+is-present-spec = tie.close (tie.spec (λ c κs. search needs) returns)

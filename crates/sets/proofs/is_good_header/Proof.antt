@@ -7,18 +7,6 @@ use borrow.Author.Needs.{needs}
 use Rattle.sets.proofs.is_good_header.Statement.{statement}
 use Rattle.sets.proofs.is_good_header.Tie as tie
 
-field-requires : tie.Need-field-requires
-field-requires c κs = search needs
-
-is-digits-requires : tie.Need-is-digits-requires
-is-digits-requires c κs = search needs
-
-field-requires-2 : tie.Need-field-requires-2
-field-requires-2 c κs = search needs
-
-is-text-requires : tie.Need-is-text-requires
-is-text-requires c κs = search needs
-
 returns : tie.Need-returns
 unfolding goodST
 returns c =
@@ -35,9 +23,9 @@ pub is-good-header-spec : {M : Type 1} → statement M
 is-good-header-spec =
     tie.close
     (tie.spec
-    field-requires
-    is-digits-requires
-    field-requires-2
-    is-text-requires
+    (λ c κs. search needs)
+    (λ c κs. search needs)
+    (λ c κs. search needs)
+    (λ c κs. search needs)
     returns
     returns-2)

@@ -39,7 +39,8 @@ IsSet c = let l = c .before .before .before .before .before .before in SetIs (l 
 
 set : (c : tie.Else2 Inv-loop μ-loop) → IsSet c
 set c =
-    let d = c .before .before .before .before .before .before .before .before .before .args .d in
+    let l = c .before .before .before .before .before .before in
+    let d = l .before .before .before .args .d in
     set-is _ _ _ _ (c .before .before .before .before .before .loop-test .taken) (c .before .before .before .before .next-set .ensures)
     (ap (λ (s : Bytes). isST (split (d .element) s)) (sym (c .before .before .before .part .ensures)) ∙ sym (c .before .is-named .ensures) ∙ not-false _ (c .if2 .left))
 
@@ -48,18 +49,20 @@ loop-less c = let i = set (c .before .before) in omega (arith, i .onward)
 
 loop-again : tie.Need-loop-again Inv-loop μ-loop
 loop-again c =
-    let d = c .before .before .before .before .before .before .before .before .before .before .before .args .d in
+    let l = c .before .before .before .before .before .before .before .before in
+    let d = l .before .before .before .args .d in
     let header = ap (λ (s : Bytes). goodST d (split (d .element) s)) (sym (c .before .before .before .before .before .part .ensures)) ∙ sym (c .before .is-good-header .ensures) ∙ not-true _ (c .if3 .taken) in
-    c .before .before .before .before .before .before .before .before .loop .inv ∙ refusal-bad _ (set (c .before .before)) header
+    l .loop .inv ∙ refusal-bad _ (set (c .before .before)) header
 
 loop-less-2 : tie.Need-loop-less-2 Inv-loop μ-loop
 loop-less-2 c = let i = set (c .before .before) in omega (arith, i .onward)
 
 loop-again-2 : tie.Need-loop-again-2 Inv-loop μ-loop
 loop-again-2 c =
-    let d = c .before .before .before .before .before .before .before .before .before .before .before .args .d in
+    let l = c .before .before .before .before .before .before .before .before in
+    let d = l .before .before .before .args .d in
     let header = ap (λ (s : Bytes). goodST d (split (d .element) s)) (sym (c .before .before .before .before .before .part .ensures)) ∙ sym (c .before .is-good-header .ensures) ∙ not-false _ (c .if3 .left) in
-    c .before .before .before .before .before .before .before .before .loop .inv ∙ refusal-good _ (set (c .before .before)) header
+    l .loop .inv ∙ refusal-good _ (set (c .before .before)) header
 
 returns-3 : tie.Need-returns-3 Inv-loop μ-loop
 returns-3 c = sym (c .before .loop .inv ∙ refusal-end _ _ _ _ (c .loop-test .left))

@@ -16,10 +16,6 @@ Inv-loop guide from k₀ k = nextWhere isMandatoryRow guide from ≡ nextWhere i
 abbrev μ-loop : tie.MeasureT-loop
 μ-loop guide from k₀ k = length guide - k
 
-shared-slice-copy-out-is-mandatory-row :
-    tie.Need-shared-slice-copy-out-is-mandatory-row Inv-loop μ-loop
-shared-slice-copy-out-is-mandatory-row c = search needs
-
 returns : tie.Need-returns Inv-loop μ-loop
 returns c = sym (c .before .before .before .before .loop .inv ∙ next-here _ _ [] _ (c .before .before .before .loop-test .taken) (sym (c .before .is-mandatory-row .ensures) ∙ c .if1 .taken))
 
@@ -37,7 +33,7 @@ mandatory-from-spec =
     μ-loop
     (λ c. search needs)
     (λ c. search needs)
-    shared-slice-copy-out-is-mandatory-row
+    (λ c. search needs)
     (λ c κs. search needs)
     returns
     (λ c. search needs)

@@ -17,21 +17,6 @@ Inv-loop s d passed₀ i₀ passed i = all (valid d) s ≡ passed && all (valid 
 abbrev μ-loop : tie.MeasureT-loop
 μ-loop s d passed₀ i₀ passed i = length s - i
 
-loop-holds : tie.Need-loop-holds Inv-loop μ-loop
-loop-holds c = search needs
-
-shared-slice-read-is-valid : tie.Need-shared-slice-read-is-valid Inv-loop μ-loop
-shared-slice-read-is-valid c = search needs
-
-is-valid-requires : tie.Need-is-valid-requires Inv-loop μ-loop
-is-valid-requires c κs = search needs
-
-add-i : tie.Need-add-i Inv-loop μ-loop
-add-i c = search needs
-
-loop-less : tie.Need-loop-less Inv-loop μ-loop
-loop-less c = search needs
-
 loop-again : tie.Need-loop-again Inv-loop μ-loop
 loop-again c =
     let l = c .before .before .before in
@@ -51,10 +36,10 @@ all-valid-spec =
     (tie.spec
     Inv-loop
     μ-loop
-    loop-holds
-    shared-slice-read-is-valid
-    is-valid-requires
-    add-i
-    loop-less
+    (λ c. search needs)
+    (λ c. search needs)
+    (λ c κs. search needs)
+    (λ c. search needs)
+    (λ c. search needs)
     loop-again
     returns)

@@ -14,23 +14,8 @@ Inv-loop s from d i₀ i = nextWhere (invalid d) s from ≡ nextWhere (invalid d
 abbrev μ-loop : tie.MeasureT-loop
 μ-loop s from d i₀ i = length s - i
 
-loop-holds : tie.Need-loop-holds Inv-loop μ-loop
-loop-holds c = search needs
-
-shared-slice-read-is-valid : tie.Need-shared-slice-read-is-valid Inv-loop μ-loop
-shared-slice-read-is-valid c = search needs
-
-is-valid-requires : tie.Need-is-valid-requires Inv-loop μ-loop
-is-valid-requires c κs = search needs
-
 returns : tie.Need-returns Inv-loop μ-loop
 returns c = sym (c .before .before .before .before .loop .inv ∙ next-here _ _ 0 _ (c .before .before .before .loop-test .taken) (rw (← c .before .is-valid .ensures) (c .if1 .taken)))
-
-add-i : tie.Need-add-i Inv-loop μ-loop
-add-i c = search needs
-
-loop-less : tie.Need-loop-less Inv-loop μ-loop
-loop-less c = search needs
 
 loop-again : tie.Need-loop-again Inv-loop μ-loop
 loop-again c = c .before .before .before .before .loop .inv ∙ next-later _ _ 0 _ (c .before .before .before .loop-test .taken) (rw (← c .before .is-valid .ensures) (c .if1 .left))
@@ -44,11 +29,11 @@ find-invalid-spec =
     (tie.spec
     Inv-loop
     μ-loop
-    loop-holds
-    shared-slice-read-is-valid
-    is-valid-requires
+    (λ c. search needs)
+    (λ c. search needs)
+    (λ c κs. search needs)
     returns
-    add-i
-    loop-less
+    (λ c. search needs)
+    (λ c. search needs)
     loop-again
     returns-2)

@@ -8,21 +8,12 @@ use Rattle.text.proofs.Digits.{value-of, value-below}
 use Rattle.text.proofs.is_date.Statement.{statement}
 use Rattle.text.proofs.is_date.Tie as tie
 
-is-digits-requires : tie.Need-is-digits-requires
-is-digits-requires c κs = search needs
-
-value-requires : tie.Need-value-requires
-value-requires c κs = search needs
-
 cast-is-day : tie.Need-cast-is-day
 cast-is-day c =
     let e = sym (c .before .before .is-digits .ensures) ∙ c .before .if1 .taken in
     let v = c .value .ensures ∙ value-of _ _ _ e (lit≤ tt) in
     let b = value-below _ _ _ e in
     omega arith
-
-is-day-requires : tie.Need-is-day-requires
-is-day-requires c κs = search needs
 
 returns : tie.Need-returns
 unfolding numbers.isDate
@@ -37,4 +28,4 @@ returns-2 c = rw (sym (c .before .is-digits .ensures) ∙ c .if1 .left) (c .if1 
 pub is-date-spec : {M : Type 1} → statement M
 is-date-spec =
     tie.close
-    (tie.spec is-digits-requires value-requires cast-is-day is-day-requires returns returns-2)
+    (tie.spec (λ c κs. search needs) (λ c κs. search needs) cast-is-day (λ c κs. search needs) returns returns-2)

@@ -5,18 +5,6 @@ use Rattle.rules.specs.Numbers.{isDay}
 use Rattle.text.proofs.is_day.Statement.{statement}
 use Rattle.text.proofs.is_day.Tie as tie
 
-cast-month : tie.Need-cast-month
-cast-month c = search needs
-
-cast-day : tie.Need-cast-day
-cast-day c = search needs
-
-is-between-requires : tie.Need-is-between-requires
-is-between-requires c κs = search needs
-
-is-between-requires-2 : tie.Need-is-between-requires-2
-is-between-requires-2 c κs = search needs
-
 returns : tie.Need-returns
 unfolding isDay
 returns c = rw (sym (c .before .before .is-between .ensures) ∙ c .before .if1 .taken, c .is-between2 .ensures)
@@ -28,4 +16,4 @@ returns-2 c = rw (sym (c .before .is-between .ensures) ∙ c .if1 .left) (c .if1
 pub is-day-spec : {M : Type 1} → statement M
 is-day-spec =
     tie.close
-    (tie.spec cast-month cast-day is-between-requires is-between-requires-2 returns returns-2)
+    (tie.spec (λ c. search needs) (λ c. search needs) (λ c κs. search needs) (λ c κs. search needs) returns returns-2)

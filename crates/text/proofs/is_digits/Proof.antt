@@ -5,12 +5,6 @@ use Rattle.rules.specs.Numbers.{digits}
 use Rattle.text.proofs.is_digits.Statement.{statement}
 use Rattle.text.proofs.is_digits.Tie as tie
 
-is-between-requires : tie.Need-is-between-requires
-is-between-requires c κs = search needs
-
-all-digits-requires : tie.Need-all-digits-requires
-all-digits-requires c κs = search needs
-
 returns : tie.Need-returns
 unfolding digits
 returns c = rw (sym (c .before .before .is-between .ensures) ∙ c .before .if1 .taken) (c .all-digits .ensures)
@@ -20,4 +14,4 @@ unfolding digits
 returns-2 c = rw (sym (c .before .is-between .ensures) ∙ c .if1 .left) (c .if1 .left)
 
 pub is-digits-spec : {M : Type 1} → statement M
-is-digits-spec = tie.close (tie.spec is-between-requires all-digits-requires returns returns-2)
+is-digits-spec = tie.close (tie.spec (λ c κs. search needs) (λ c κs. search needs) returns returns-2)

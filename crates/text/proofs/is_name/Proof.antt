@@ -15,23 +15,8 @@ Inv-loop s i₀ i = all isUpperOrDigit s ≡ all isUpperOrDigit (drop i s)
 abbrev μ-loop : tie.MeasureT-loop
 μ-loop s i₀ i = length s - i
 
-loop-holds : tie.Need-loop-holds Inv-loop μ-loop
-loop-holds c = search needs
-
-shared-slice-read-is-upper-or-digit : tie.Need-shared-slice-read-is-upper-or-digit Inv-loop μ-loop
-shared-slice-read-is-upper-or-digit c = search needs
-
-is-upper-or-digit-requires : tie.Need-is-upper-or-digit-requires Inv-loop μ-loop
-is-upper-or-digit-requires c κs = search needs
-
 returns : tie.Need-returns Inv-loop μ-loop
 returns c = sym (c .before .before .before .before .loop .inv ∙ all-step _ _ _ _ _ (c .before .before .before .loop-test .taken) (sym (c .before .is-upper-or-digit .ensures) ∙ not-true _ (c .if1 .taken)))
-
-add-i : tie.Need-add-i Inv-loop μ-loop
-add-i c = search needs
-
-loop-less : tie.Need-loop-less Inv-loop μ-loop
-loop-less c = search needs
 
 loop-again : tie.Need-loop-again Inv-loop μ-loop
 loop-again c = c .before .before .before .before .loop .inv ∙ all-step _ _ _ _ _ (c .before .before .before .loop-test .taken) (sym (c .before .is-upper-or-digit .ensures) ∙ not-false _ (c .if1 .left))
@@ -45,11 +30,11 @@ is-name-spec =
     (tie.spec
     Inv-loop
     μ-loop
-    loop-holds
-    shared-slice-read-is-upper-or-digit
-    is-upper-or-digit-requires
+    (λ c. search needs)
+    (λ c. search needs)
+    (λ c κs. search needs)
     returns
-    add-i
-    loop-less
+    (λ c. search needs)
+    (λ c. search needs)
     loop-again
     returns-2)

@@ -5,12 +5,6 @@ use Rattle.rules.specs.Cutting.{text}
 use Rattle.text.proofs.is_text.Statement.{statement}
 use Rattle.text.proofs.is_text.Tie as tie
 
-is-between-requires : tie.Need-is-between-requires
-is-between-requires c κs = search needs
-
-all-valid-requires : tie.Need-all-valid-requires
-all-valid-requires c κs = search needs
-
 returns : tie.Need-returns
 unfolding text
 returns c = rw (sym (c .before .before .is-between .ensures) ∙ c .before .if1 .taken) (c .all-valid .ensures)
@@ -20,4 +14,4 @@ unfolding text
 returns-2 c = rw (sym (c .before .is-between .ensures) ∙ c .if1 .left) (c .if1 .left)
 
 pub is-text-spec : {M : Type 1} → statement M
-is-text-spec = tie.close (tie.spec is-between-requires all-valid-requires returns returns-2)
+is-text-spec = tie.close (tie.spec (λ c κs. search needs) (λ c κs. search needs) returns returns-2)

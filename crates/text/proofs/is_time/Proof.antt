@@ -20,82 +20,58 @@ known c = time-digits _ (passed c)
 hours : (c : tie.Else2) → leb (two 0 (c .before .before .before .before .before .before .args .s .now)) 23 ≡ true
 hours c = pair 0 _ _ 23 true (known (c .before .before .before) .only) (c .before .value .ensures) (le-leb _ 23 (c .if2 .left))
 
-minutes : (c : tie.Else3) → leb (two 2 (c .before .before .before .before .before .before .before .before .before .args .s .now)) 59 ≡ true
+minutes : (c : tie.Else3) → (let past-digits = c .before .before .before .before .before .before in leb (two 2 (past-digits .before .before .before .args .s .now)) 59 ≡ true)
 minutes c = pair 2 _ _ 59 true (known (c .before .before .before .before .before .before) .only) (c .before .value2 .ensures) (le-leb _ 59 (c .if3 .left))
-
-is-time-digits-requires : tie.Need-is-time-digits-requires
-is-time-digits-requires c κs = search needs
 
 returns : tie.Need-returns
 returns c = sym (time-by _ false _ _ _ (sym (c .before .is-time-digits .ensures) ∙ not-true _ (c .if1 .taken)) refl refl refl)
 
-sub-value : tie.Need-sub-value
-sub-value c = search needs
-
-part-value-start : tie.Need-part-value-start
-part-value-start c = search needs
-
 part-value-end : tie.Need-part-value-end
 part-value-end c = omega (arith, known c .minutes)
-
-value-requires : tie.Need-value-requires
-value-requires c κs = search needs
 
 returns-2 : tie.Need-returns-2
 returns-2 c = sym (time-by _ true false _ _ (passed (c .before .before .before)) (pair 0 _ _ 23 false (known (c .before .before .before) .only) (c .before .value .ensures) (lt-leb _ 23 (c .if2 .taken))) refl refl)
 
-sub-value-2 : tie.Need-sub-value-2
-sub-value-2 c = search needs
-
-part-value-start-2 : tie.Need-part-value-start-2
-part-value-start-2 c = search needs
-
 part-value-end-2 : tie.Need-part-value-end-2
 part-value-end-2 c = known (c .before .before .before) .minutes
-
-value-requires-2 : tie.Need-value-requires-2
-value-requires-2 c κs = search needs
 
 returns-3 : tie.Need-returns-3
 returns-3 c = sym (time-by _ true true false _ (passed (c .before .before .before .before .before .before)) (hours (c .before .before .before)) (pair 2 _ _ 59 false (known (c .before .before .before .before .before .before) .only) (c .before .value2 .ensures) (lt-leb _ 59 (c .if3 .taken))) refl)
 
-sub-value-3 : tie.Need-sub-value-3
-sub-value-3 c = search needs
-
-part-value-start-3 : tie.Need-part-value-start-3
-part-value-start-3 c = search needs
-
 part-value-end-3 : tie.Need-part-value-end-3
 part-value-end-3 c = known (c .before .before .before .before .before .before .before) .seconds (c .if4 .left)
 
-value-requires-3 : tie.Need-value-requires-3
-value-requires-3 c κs = search needs
-
 returns-4 : tie.Need-returns-4
-returns-4 c = eq-eqb _ 4 (c .if4 .taken) ∙ sym (time-by _ true true true true (passed (c .before .before .before .before .before .before .before)) (hours (c .before .before .before .before)) (minutes (c .before)) (rw (two-none 4 (c .before .before .before .before .before .before .before .before .before .before .args .s .now) (omega arith))))
+returns-4 c =
+    let past-minutes = c .before in
+    let past-digits = past-minutes .before .before .before .before .before .before in
+    eq-eqb _ 4 (c .if4 .taken) ∙ sym (time-by _ true true true true (passed past-digits) (hours (past-minutes .before .before .before)) (minutes past-minutes) (rw (two-none 4 (past-digits .before .before .before .args .s .now) (omega arith))))
 
 returns-5 : tie.Need-returns-5
-returns-5 c = sym (time-by _ true true true _ (passed (c .before .before .before .before .before .before .before .before .before)) (hours (c .before .before .before .before .before .before)) (minutes (c .before .before .before)) (pair 4 _ _ 59 _ (known (c .before .before .before .before .before .before .before .before .before) .only) (c .value3 .ensures) refl))
+returns-5 c =
+    let past-minutes = c .before .before .before in
+    let past-digits = past-minutes .before .before .before .before .before .before in
+    sym (time-by _ true true true _ (passed past-digits) (hours (past-minutes .before .before .before)) (minutes past-minutes) (pair 4 _ _ 59 _ (known past-digits .only) (c .value3 .ensures) refl))
 
 pub is-time-spec : {M : Type 1} → statement M
 is-time-spec =
     tie.close
     (tie.spec
-    is-time-digits-requires
+    (λ c κs. search needs)
     returns
-    sub-value
-    part-value-start
+    (λ c. search needs)
+    (λ c. search needs)
     part-value-end
-    value-requires
+    (λ c κs. search needs)
     returns-2
-    sub-value-2
-    part-value-start-2
+    (λ c. search needs)
+    (λ c. search needs)
     part-value-end-2
-    value-requires-2
+    (λ c κs. search needs)
     returns-3
-    sub-value-3
-    part-value-start-3
+    (λ c. search needs)
+    (λ c. search needs)
     part-value-end-3
-    value-requires-3
+    (λ c κs. search needs)
     returns-4
     returns-5)

@@ -29,18 +29,6 @@ plain (b ∷ s) h e = rw (ne-eqb b 45 e)
 returns : tie.Need-returns
 returns c = empty (c .before .args .s .now) (c .if1 .taken)
 
-shared-slice-read-if2 : tie.Need-shared-slice-read-if2
-shared-slice-read-if2 c = search needs
-
-sub-result : tie.Need-sub-result
-sub-result c = search needs
-
-part-result-start : tie.Need-part-result-start
-part-result-start c = search needs
-
-part-result-end : tie.Need-part-result-end
-part-result-end c = search needs
-
 returns-2 : tie.Need-returns-2
 returns-2 c = minus (c .before .before .before .before .args .s .now) (c .before .before .before .if1 .left) (c .before .if2 .taken)
 
@@ -52,9 +40,9 @@ unsigned-spec =
     tie.close
     (tie.spec
     returns
-    shared-slice-read-if2
-    sub-result
-    part-result-start
-    part-result-end
+    (λ c. search needs)
+    (λ c. search needs)
+    (λ c. search needs)
+    (λ c. search needs)
     returns-2
     returns-3)

@@ -10,18 +10,6 @@ use Rattle.verdicts.proofs.included_sets.Tie as tie
 returns : tie.Need-returns
 returns c = rw (not-true (c .before .before .args .closed) (c .if1 .taken))
 
-field-requires : tie.Need-field-requires
-field-requires c κs = search needs
-
-count-in-requires : tie.Need-count-in-requires
-count-in-requires c κs = search needs
-
-enum-known-n : tie.Need-enum-known-n
-enum-known-n c = search needs
-
-enum-told : tie.Need-enum-told
-enum-told c = search needs
-
 returns-2 : tie.Need-returns-2
 returns-2 c =
     let f = c .before .before .before .before in
@@ -39,9 +27,9 @@ included-sets-spec =
     tie.close
     (tie.spec
     returns
-    field-requires
-    count-in-requires
-    enum-known-n
-    enum-told
+    (λ c κs. search needs)
+    (λ c κs. search needs)
+    (λ c. search needs)
+    (λ c. search needs)
     returns-2
     returns-3)

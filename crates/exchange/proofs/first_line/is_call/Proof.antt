@@ -28,7 +28,9 @@ returns-5 : tie.Need-returns-5
 returns-5 c = sym (by-tests _ true true true false _ (sym (c .before .before .before .before .before .before .before .before .is-digits .ensures) ∙ not-false _ (c .before .before .before .before .before .before .before .if2 .left)) (eq-eqb _ _ (c .before .before .before .before .before .if3 .left)) (sym (c .before .before .before .is-digits2 .ensures) ∙ not-false _ (c .before .before .if4 .left)) (ne-eqb _ _ (c .if5 .taken)) refl)
 
 returns-6 : tie.Need-returns-6
-returns-6 c = sym (by-tests _ true true true true _ (sym (c .before .before .before .before .before .before .before .before .before .before .is-digits .ensures) ∙ not-false _ (c .before .before .before .before .before .before .before .before .before .if2 .left)) (eq-eqb _ _ (c .before .before .before .before .before .before .before .if3 .left)) (sym (c .before .before .before .before .before .is-digits2 .ensures) ∙ not-false _ (c .before .before .before .before .if4 .left)) (eq-eqb _ _ (c .before .before .if5 .left)) (sym (c .is-digits3 .ensures)))
+returns-6 c =
+    let past-date = c .before .before .before .before .before .before .before in
+    sym (by-tests _ true true true true _ (sym (past-date .before .before .before .is-digits .ensures) ∙ not-false _ (past-date .before .before .if2 .left)) (eq-eqb _ _ (past-date .if3 .left)) (sym (c .before .before .before .before .before .is-digits2 .ensures) ∙ not-false _ (c .before .before .before .before .if4 .left)) (eq-eqb _ _ (c .before .before .if5 .left)) (sym (c .is-digits3 .ensures)))
 
 pub is-call-spec : {M : Type 1} → statement M
 is-call-spec =

@@ -10,7 +10,9 @@ returns : tie.Need-returns
 returns c = written _ _ (c .before .before .before .before .before .acknowledge .ensures) (c .before .n .given .1) (omega arith)
 
 returns-2 : tie.Need-returns-2
-returns-2 c = refused _ _ (c .before .before .before .before .before .before .before .before .before .acknowledge .ensures) (c .before .before .before .before .before .number .given .1) refl (c .before .before .put-refused .ensures)
+returns-2 c =
+    let matched = c .before .before .before .before .before in
+    refused _ _ (matched .before .before .before .before .acknowledge .ensures) (matched .number .given .1) refl (c .before .before .put-refused .ensures)
 
 returns-3 : tie.Need-returns-3
 returns-3 c = refused _ _ (c .before .before .before .before .before .before .before .before .acknowledge .ensures) (c .before .before .before .before .enum-told .given .1) refl (c .before .before .put-refused2 .ensures)

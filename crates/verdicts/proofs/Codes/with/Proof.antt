@@ -12,14 +12,8 @@ returns c = rw (not-true (c .before .args .applies) (c .if1 .taken)) (sym (with-
 returns-2 : tie.Need-returns-2
 returns-2 c = rw (not-false (c .before .before .args .applies) (c .before .if1 .left)) (sym (with-full _ _ (c .if2 .taken)))
 
-array-write-list : tie.Need-array-write-list
-array-write-list c = search needs
-
-add-t10 : tie.Need-add-t10
-add-t10 c = search needs
-
 returns-3 : tie.Need-returns-3
 returns-3 c = rw (not-false (c .before .before .before .args .applies) (c .before .before .if1 .left)) (sym (with-one _ _ (c .before .if2 .left)))
 
 pub with-spec : {M : Type 1} → statement M
-with-spec = tie.close (tie.spec returns returns-2 array-write-list add-t10 returns-3)
+with-spec = tie.close (tie.spec returns returns-2 (λ c. search needs) (λ c. search needs) returns-3)
