@@ -19,14 +19,12 @@ use Rattle.tables.specs.Reading.{Guide, entryAt, isMandatoryRow}
 use Rattle.findings.specs.Events.{Event}
 use Rattle.findings.specs.Steps.{bumped, start, stands, ownOf, checkOf, presentOf, passingOf, nextMissing}
 use Rattle.findings.specs.Remaining.{Slots, events, missingThen, segmentThen, trailerSlots, walkSlots, setSlots, remaining}
-use Rattle.findings.specs.Turns.{isMissing, usedAgain, usedAnew, turnBy, turnOf, passesBy, passesAny}
+use Rattle.findings.specs.Turns.{Turn, Noted, Quiet, isMissing, usedAgain, usedAnew, turnBy, turnOf}
 use Rattle.findings.specs.declared.Missing.{Missing}
 use Rattle.findings.specs.declared.Missing.the-variants.{Row, Nothing}
 use Rattle.findings.specs.declared.Present.{Present}
 use Rattle.findings.specs.declared.Standing.{Standing}
 use Rattle.findings.specs.declared.Standing.the-variants.{Unknown, Unlisted, Before, Again, Later}
-use Rattle.findings.specs.declared.Turn.{Turn}
-use Rattle.findings.specs.declared.Turn.the-variants.{Noted, Quiet}
 use Rattle.findings.proofs.Search.{missedBy, miss-law}
 
 -- 1. Slots that tell something.
@@ -157,82 +155,3 @@ module _ (d : Delimiters) (ids : List (List ℕ)) (rows : Guide) (closed : Bool)
   pub closed-silent : (p : Present) (n : ℕ) → closed ≡ true → silent (walk p n []) ≡ true
   unfolding walkSlots events
   closed-silent p n e = rw e
-
-  open-silent : (p : Present) (n : ℕ) → closed ≡ false → not (silent (walk p n [])) ≡ passesAny ids rows p
-  unfolding walkSlots events passesAny
-  open-silent p n e = rw e (go (stands ids rows (p .row) (ascii "SE")))
-    where
-      passed : (k : ℕ) (m : Missing) → missingThen n (slice (bumped (p .row)) k rows) [] ≡ missedBy n [] rows k m
-          → not (silent (missingThen n (slice (bumped (p .row)) k rows) [])) ≡ isMissing m
-      passed k (Row m) q = ap (λ (l : Slots). not (silent l)) q
-      passed k Nothing q = ap (λ (l : Slots). not (silent l)) q
-
-      go : (st : Standing) → not (silent (trailerSlots d ids rows closed p n st)) ≡ passesBy ids rows p st
-      go Unknown = refl
-      go Unlisted = refl
-      go (Before k) = refl
-      go Again = refl
-      go (Later k) = passed k (nextMissing rows (bumped (p .row)) k) (miss-law n [] rows (bumped (p .row)) k)
-
--- 6. At a cursor: the rest of a walk tells what the whole tells.
-module _ (set : Bytes) (d : Delimiters) (ids : List (List ℕ)) (rows : Guide) (closed : Bool) where
-  abbrev told : List Event
-  told = events (remaining set d ids rows closed start)
-
-  -- a set without a segment
-  pub none-told : length set ≡ 0 → null told ≡ true
-  unfolding remaining start setSlots events
-  none-told h = rw (segments-none d set 0 (omega arith))
-
-  pub record Decides (at : ℕ) (p : Present) : Type 0 where
-    pub position : ℕ
-    pub rest : events (walkSlots d ids rows closed p position (segments d (drop at set))) ≡ told
-
-  -- the header
-  module _ {end : ℕ} (h : 0 < length set) (q : end ≡ 0 + indexOf (d .terminator) set) where
-    abbrev header : Segment
-    header = split (d .element) (take end set)
-
-    by-header : events (setSlots d ids rows closed 1 (header ∷ segments d (drop (end + 1) set))) ≡ told
-    unfolding remaining start
-    by-header = let z : end - 0 ≡ end = omega arith in rw (segments-at d set 0 end h q, z)
-
-    pub header-faulty : null (findings d (entryAt rows 0) header) ≡ false → null told ≡ false
-    header-faulty f = rw (← by-header) (first-faulty d ids rows closed header _ f)
-
-    pub header-clean : null (findings d (entryAt rows 0) header) ≡ true → Decides (end + 1) (record { row = 0; used = 1 })
-    header-clean f = record { position = 2; rest = sym (first-clean d ids rows closed header _ f) ∙ by-header }
-
-  module _ {at : ℕ} {p : Present} (w : Decides at p) where
-    module _ {end : ℕ} (h : at < length set) (q : end ≡ at + indexOf (d .terminator) (drop at set)) where
-      abbrev s : Segment
-      s = split (d .element) (take (end - at) (drop at set))
-
-      abbrev after : List Segment
-      after = segments d (drop (end + 1) set)
-
-      here : events (walkSlots d ids rows closed p (w .position) (s ∷ after)) ≡ told
-      here = rw (segments-at d set at end h q) at (w .rest)
-
-      pub turn-noted : turnOf ids rows p (field s 0) ≡ Noted → null told ≡ false
-      turn-noted e = rw (← here) (next-noted d ids rows closed p (w .position) s after e)
-
-      module _ {k uses : ℕ} (e : turnOf ids rows p (field s 0) ≡ Quiet k uses) where
-        pub turn-faulty : null (findings d (entryAt rows k) s) ≡ false → null told ≡ false
-        turn-faulty f = rw (← here) (next-faulty d ids rows closed p (w .position) s after e f)
-
-        pub turn-clean : null (findings d (entryAt rows k) s) ≡ true → Decides (end + 1) (record { row = k; used = uses })
-        turn-clean f = record {
-          position = bumped (w .position);
-          rest = sym (next-clean d ids rows closed p (w .position) s after e f) ∙ here;
-        }
-
-    module _ (h : length set ≤ at) where
-      last : events (walkSlots d ids rows closed p (w .position) []) ≡ told
-      last = rw (segments-none d set at h) at (w .rest)
-
-      pub ends-closed : closed ≡ true → null told ≡ true
-      ends-closed e = rw (← last) (closed-silent d ids rows closed p (w .position) e)
-
-      pub ends-open : closed ≡ false → not (null told) ≡ passesAny ids rows p
-      ends-open e = rw (← last) (open-silent d ids rows closed p (w .position) e)

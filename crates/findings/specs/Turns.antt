@@ -4,7 +4,7 @@ use mathlib.Core.Bool.{Bool, true, false}
 use mathlib.Core.List.{List, []}
 use lib.Dec.{ltb}
 use lib.ListN.{getD}
-use Rattle.rules.specs.Base.{Bytes, ascii, if_then_else_}
+use Rattle.rules.specs.Base.{Bytes, if_then_else_}
 use Rattle.tables.specs.Rows.{column}
 use Rattle.tables.specs.Reading.{Guide}
 use Rattle.findings.specs.Steps.{bumped, stands, nextMissing}
@@ -13,8 +13,11 @@ use Rattle.findings.specs.declared.Missing.the-variants.{Row, Nothing}
 use Rattle.findings.specs.declared.Present.{Present}
 use Rattle.findings.specs.declared.Standing.{Standing}
 use Rattle.findings.specs.declared.Standing.the-variants.{Unknown, Unlisted, Before, Again, Later}
-use Rattle.findings.specs.declared.Turn.{Turn}
-use Rattle.findings.specs.declared.Turn.the-variants.{Noted, Quiet}
+
+-- a note, or none and then the row of the segment's entry and how often that is used
+pub data Turn : Type 0 where
+  Noted : Turn
+  Quiet : ℕ → ℕ → Turn
 
 -- one more use of the entry of row k
 abbrev pub usedAgain : Guide → ℕ → ℕ → Turn
@@ -40,14 +43,3 @@ module _ (ids : List (List ℕ)) (rows : Guide) (p : Present) where
 
   unfoldable pub turnOf : Bytes → Turn
   turnOf id = turnBy (stands ids rows (p .row) id)
-
-  -- a missing trailer, by the standing of SE, passes over a mandatory entry
-  abbrev pub passesBy : Standing → Bool
-  passesBy Unknown = false
-  passesBy Unlisted = false
-  passesBy (Before k) = false
-  passesBy Again = false
-  passesBy (Later k) = isMissing (nextMissing rows (bumped (p .row)) k)
-
-  unfoldable pub passesAny : Bool
-  passesAny = passesBy (stands ids rows (p .row) (ascii "SE"))

@@ -1,15 +1,13 @@
 // The walk of a set through its table: a cursor goes in by value, and what one step tells comes back with the next cursor.
 ghost use mathlib.Core.Path.{_≡_};
-ghost use mathlib.Core.Bool.{_&&_, not};
+ghost use mathlib.Core.Bool.{_&&_};
 ghost use Prim.Native.Nat.{_+_, _<_};
 ghost use lib.Dec.{ltb};
 ghost use lib.ListN.{length, getD};
-ghost use Rattle.rules.specs.Base.{all, between, isUpperOrDigit, null, if_then_else_};
+ghost use Rattle.rules.specs.Base.{all, between, isUpperOrDigit, if_then_else_};
 ghost use Rattle.rules.specs.Cutting as cutting;
 ghost use Rattle.tables.specs.Reading.{entryAt};
 ghost use Rattle.findings.specs.Steps as steps;
-ghost use Rattle.findings.specs.Remaining as rest;
-ghost use Rattle.findings.specs.Turns as turns;
 ghost use Rattle.findings.specs.declared.Standing.the-variants as standing;
 ghost use Rattle.findings.specs.declared.Phase.the-variants as phase;
 use rules::Delimiters;
@@ -68,12 +66,6 @@ pub enum Standing {
 pub enum Missing {
     Row(usize),
     Nothing,
-}
-
-// What a segment comes to before its elements are read: a note, or none and then the row of its entry and how often that is used.
-pub enum Turn {
-    Noted,
-    Quiet(usize, usize),
 }
 
 // What is told of one segment, an AK3: its codes are its own, where that is not 0, and 8, where it is faulty.
@@ -530,99 +522,4 @@ pub fn next(
         Phase::Place(k, n, told) => place(set, d, guide, w, k, n, told),
         Phase::Trailer(k, end) => trailer(guide, w, k, end),
     }
-}
-
-// One more use of the entry in row k.
-fn again(guide: &[[u16; 6]], k: usize, used: usize) -> Turn
-    ensures { λ r. ⌜ r ≡ turns.usedAgain (now (guide .entry)) k used ⌝ }
-{
-    if is_over(guide, k, used) {
-        return Turn::Noted;
-    }
-    Turn::Quiet(k, used)
-}
-
-// A mandatory segment stands from row `from` on and before row `end`.
-fn misses_any(guide: &[[u16; 6]], from: usize, end: usize) -> bool
-    ensures { λ r. ⌜ r ≡ turns.isMissing (steps.nextMissing (now (guide .entry)) from end) ⌝ }
-{
-    match next_missing(guide, from, end) {
-        Missing::Row(row) => true,
-        Missing::Nothing => false,
-    }
-}
-
-// The first use of the entry in row k, which passes over those from row `from` on.
-fn anew(guide: &[[u16; 6]], from: usize, k: usize) -> Turn
-    ensures { λ r. ⌜ r ≡ turns.usedAnew (now (guide .entry)) from k ⌝ }
-{
-    if misses_any(guide, from, k) {
-        return Turn::Noted;
-    }
-    Turn::Quiet(k, 1)
-}
-
-// What a segment with this id comes to, at the present entry and its uses.
-fn turn_of(id: &[u8], directory: &[[u8; 3]], guide: &[[u16; 6]], present: Present) -> Turn
-    ensures { λ r. ⌜ r ≡ turns.turnOf (now (directory .entry)) (now (guide .entry)) present (now (id .entry)) ⌝ }
-{
-    let row = present.row;
-    match stands(id, directory, guide, row) {
-        Standing::Again => again(guide, row, bumped(present.used)),
-        Standing::Later(k) => anew(guide, bumped(row), k),
-        _ => Turn::Noted,
-    }
-}
-
-// A missing trailer passes over a mandatory segment.
-fn passes_any(directory: &[[u8; 3]], guide: &[[u16; 6]], present: Present) -> bool
-    ensures { λ r. ⌜ r ≡ turns.passesAny (now (directory .entry)) (now (guide .entry)) present ⌝ }
-{
-    let row = present.row;
-    match stands(&rules::SE, directory, guide, row) {
-        Standing::Later(end) => misses_any(guide, bumped(row), end),
-        _ => false,
-    }
-}
-
-// The walk of a set tells anything of it.
-pub fn is_noted(
-    set: &[u8],
-    d: Delimiters,
-    directory: &[[u8; 3]],
-    guide: &[[u16; 6]],
-    closed: bool,
-) -> bool
-    ensures { λ r. ⌜ r ≡ not (null (rest.events (rest.remaining (now (set .entry)) d (now (directory .entry)) (now (guide .entry)) closed steps.start))) ⌝ }
-{
-    if set.len() == 0 {
-        return false;
-    }
-    let header = text::find(set, 0, d.terminator);
-    if !elements::is_clean(&set[..header], d, guide, 0) {
-        return true;
-    }
-    let mut at = header + 1;
-    let mut present = Present { row: 0, used: 1 };
-    while at < set.len() {
-        let end = text::find(set, at, d.terminator);
-        let segment = &set[at..end];
-        let id = segments::id(segment, d.element);
-        match turn_of(id, directory, guide, present) {
-            Turn::Noted => {
-                return true;
-            }
-            Turn::Quiet(k, uses) => {
-                present = Present { row: k, used: uses };
-            }
-        }
-        if !elements::is_clean(segment, d, guide, present.row) {
-            return true;
-        }
-        at = end + 1;
-    }
-    if closed {
-        return false;
-    }
-    passes_any(directory, guide, present)
 }

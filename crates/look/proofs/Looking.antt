@@ -27,7 +27,7 @@ use Rattle.findings.specs.Steps.{bumped, start}
 use Rattle.findings.specs.Remaining.{events, walkSlots, setSlots, remaining}
 use Rattle.findings.specs.Turns.{turnOf}
 use Rattle.findings.specs.declared.Present.{Present}
-use Rattle.findings.specs.declared.Turn.the-variants as walk
+use Rattle.findings.specs.Turns as walk
 use Rattle.findings.proofs.Turns.{first-faulty, first-clean, next-noted, next-faulty, next-clean, closed-silent}
 use Rattle.look.specs.Bytes.{validBytes}
 use Rattle.look.specs.Passing.{idEnd, passed}

@@ -18,12 +18,11 @@ use Rattle.tables.specs.Reading.{Guide, Limits, Orderly, idIn, isEntryRow, isMa
 use Rattle.tables.proofs.Laws.{row-within}
 use Rattle.tables.specs.declared.Due.the-variants as due
 use Rattle.findings.specs.Steps.{bumped, compared, stands, nextMissing}
-use Rattle.findings.specs.Turns.{isMissing, usedAgain, turnBy, turnOf}
+use Rattle.findings.specs.Turns.{Noted, Quiet, isMissing, usedAgain, turnBy, turnOf}
 use Rattle.findings.specs.declared.Missing.the-variants.{Row, Nothing}
 use Rattle.findings.specs.declared.Present.{Present}
 use Rattle.findings.specs.declared.Standing.the-variants.{Unknown, Unlisted, Before, Again, Later}
-use Rattle.findings.specs.declared.Turn as walk
-use Rattle.findings.specs.declared.Turn.the-variants.{Noted, Quiet}
+use Rattle.findings.specs.Turns as walk
 use Rattle.findings.proofs.Linked.{bumped-low}
 use Rattle.look.specs.Looking.{againAt, dueAt, turnOn}
 use Rattle.look.specs.declared.Course.{Course}

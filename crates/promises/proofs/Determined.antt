@@ -89,7 +89,6 @@ use Rattle.elements.proofs.takes.Reads as elements-takes
 use Rattle.elements.proofs.breaks_before.Reads as elements-breaks-before
 use Rattle.findings.proofs.start.Reads as findings-start
 use Rattle.findings.proofs.next.Reads as findings-next
-use Rattle.findings.proofs.is_noted.Reads as findings-is-noted
 use Rattle.writing.proofs.clipped.Reads as writing-clipped
 use Rattle.writing.proofs.joined.Reads as writing-joined
 use Rattle.writing.proofs.add_byte.Reads as writing-add-byte
@@ -368,9 +367,6 @@ findings-start-once = ((λ κs a. tt), λ κs a r₁ r₂ s₁ s₂ p q. p ∙ s
 
 findings-next-once : Determined findings-next.Pre findings-next.Post (λ κs r s. r)
 findings-next-once = ((λ κs a. tt), λ κs a r₁ r₂ s₁ s₂ p q. p ∙ sym q)
-
-findings-is-noted-once : Determined findings-is-noted.Pre findings-is-noted.Post (λ κs r s. r)
-findings-is-noted-once = ((λ κs a. tt), λ κs a r₁ r₂ s₁ s₂ p q. p ∙ sym q)
 
 -- writing
 writing-clipped-once : Determined writing-clipped.Pre writing-clipped.Post (λ κs r s. r)
