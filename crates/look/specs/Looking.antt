@@ -15,7 +15,7 @@ use Rattle.look.specs.Passing.{idEnd, passed}
 use Rattle.look.specs.declared.segment.Passed.{Passed}
 use Rattle.look.specs.declared.segment.Passed.the-variants.{Clean, Faulty}
 use Rattle.look.specs.declared.Look.{Look}
-use Rattle.look.specs.declared.Look.the-variants as look
+use Rattle.look.specs.declared.Look.the-variants as sight
 use Rattle.look.specs.declared.Course.{Course}
 use Rattle.look.specs.declared.Turn.{Turn}
 use Rattle.look.specs.declared.Turn.the-variants as turn
@@ -60,22 +60,22 @@ module _ (table : List Bool) (d : Delimiters) (rows : Guide) (body : Bytes) wher
   module _ (start header : ℕ) where
     -- by what the next segment comes to; the look goes on as it is given
     abbrev pub lookBy : (Course → Look) → Course → Step → Look
-    lookBy onward c step.Odd = look.Odd
-    lookBy onward c (step.Closed end) = look.Quiet (closedAt start header (c .segments + 1) (c .at) end)
+    lookBy onward c step.Odd = sight.Odd
+    lookBy onward c (step.Closed end) = sight.Quiet (closedAt start header (c .segments + 1) (c .at) end)
     lookBy onward c (step.On further) = onward further
 
     -- the look from the cursor on, over so many segments at most
     unfoldable pub lookFrom : ℕ → Course → Look
-    lookFrom zero c = look.Odd
+    lookFrom zero c = sight.Odd
     lookFrom (suc fuel) c = lookBy (lookFrom fuel) c (stepAt c)
 
   -- by what the header comes to
   abbrev pub openedBy : ℕ → Passed → Look
-  openedBy at Faulty = look.Odd
+  openedBy at Faulty = sight.Odd
   openedBy at (Clean end next) =
       lookFrom at (at + end) (length body) (record { at = at + end + 1; row = 0; used = 1; next = next; segments = 1 })
 
   -- the set whose header starts at a place
   unfoldable pub looked : ℕ → Look
   looked at =
-      if ltb at (length body) then openedBy at (passed table d (drop at body) rows 0 (idEnd d (drop at body))) else look.Odd
+      if ltb at (length body) then openedBy at (passed table d (drop at body) rows 0 (idEnd d (drop at body))) else sight.Odd

@@ -7,7 +7,7 @@ ghost use lib.ListN.{length, take, drop};
 ghost use Rattle.rules.specs.Base.{between, isDigit, isUpper, isUpperOrDigit, same, all, any};
 ghost use Rattle.rules.specs.Cutting.{valid, text};
 ghost use Rattle.rules.specs.Numbers.{digits, countIn, declares, isDay, isDate, isTime};
-ghost use Rattle.rules.specs.Elements as elements;
+ghost use Rattle.rules.specs.Elements as law;
 ghost use Rattle.text.specs.Text.{indexOf, nextWhere, part, invalid, upToTen, counted};
 use rules::Delimiters;
 
@@ -290,7 +290,7 @@ pub fn is_name(s: &[u8]) -> bool
 
 // Without a leading minus.
 pub fn unsigned(s: &[u8]) -> &[u8]
-    ensures { λ r. ⌜ now r ≡ elements.unsigned (now (s .entry)) ⌝ }
+    ensures { λ r. ⌜ now r ≡ law.unsigned (now (s .entry)) ⌝ }
 {
     if s.len() == 0 {
         return s;
