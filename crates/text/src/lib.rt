@@ -217,7 +217,7 @@ pub fn is_time(s: &[u8]) -> bool
 }
 
 // A valid byte: 32 to 126 and no delimiter.
-fn is_valid(b: u8, d: Delimiters) -> bool
+pub fn is_valid(b: u8, d: Delimiters) -> bool
     ensures { λ r. ⌜ r ≡ valid d b ⌝ }
 {
     (32 <= b) & (b <= 126) & !d.is_mark(b)
