@@ -10,26 +10,26 @@ use borrow.Author.Tests.{lt-ltb, le-ltb, ltb-true, ltb-false}
 use lib.Dec.{eqb, ltb}
 use lib.ListN.{length, getD, drop, drop-of-length-le, length-append}
 use lib.Seq.{drop-cons, drop-drop}
-use Rattle.rules.specs.Base.{Bytes, null, every, _⇒_, if_then_else_}
-use Rattle.rules.specs.Cutting.{split, field}
-use Rattle.rules.specs.Elements.{present, placeCodes, found, findings}
+use Rattle.rules.specs.Base.{Bytes, null, every, if_then_else_}
+use Rattle.rules.specs.Cutting.{split}
+use Rattle.rules.specs.Elements.{placeCodes, found, findings}
 use Rattle.rules.specs.Elements as law
-use Rattle.rules.specs.Tables.{Row, Syntax}
+use Rattle.rules.specs.Tables.{Syntax}
 use Rattle.rules.specs.declared.Delimiters.{Delimiters}
 use Rattle.rules.specs.declared.Finding.{Finding}
-use Rattle.text.specs.Text.{indexOf, indexWhere, part}
+use Rattle.text.specs.Text.{indexWhere}
 use Rattle.text.proofs.Search.{find-le}
 use Rattle.segments.proofs.Fields.{FieldAt, field-first, field-next, field-some, field-none, present-length}
 use Rattle.tables.specs.Rows.{isRow, rowsIn, syntaxIn}
 use Rattle.tables.specs.Reading.{Guide, entryAt, rowAt, rowBelow}
 use Rattle.tables.proofs.Laws.{below-rest, rows-here, rows-skip, rows-stop, rows-end}
-use Rattle.elements.specs.Checks.{isSome, findingsAt, placeAfter, noteRow, fieldAfter, isCoded, surplus, surplusFindings, codesOf, codesAt, past, over, foundIn, nextFound, findingsIn, findingsLeft, findingsFrom, start}
+use Rattle.elements.specs.Checks.{isSome, findingsAt, noteRow, fieldAfter, isCoded, surplus, surplusFindings, codesAt, past, over, foundIn, nextFound, findingsIn, findingsLeft, findingsFrom, start}
 use Rattle.elements.specs.declared.Cursor.{Cursor}
 use Rattle.elements.specs.declared.Found.{Found}
 use Rattle.elements.specs.declared.Found.the-variants.{Codes, Nothing}
 use Rattle.elements.specs.declared.PlaceCodes.{PlaceCodes}
 use Rattle.elements.proofs.Codes.{code-is}
-use Rattle.elements.proofs.Places.{next-field, next-at, next-within, place-codes}
+use Rattle.elements.proofs.Places.{next-field, next-at, after-within, place-codes}
 
 -- 1. The codes of a place.
 -- a code is a finding, and no code is none
@@ -195,7 +195,7 @@ module _ (d : Delimiters) (s : Bytes) (rows : Guide) where
 
     right-past : {c : Cursor} → Right c → c .place < 18446744073709551615 → Right (past d s rows c)
     right-past {c} r h =
-        rw (lt-ltb (c .place) 18446744073709551615 h) (record { at = next-at d (r .at) (r .within); within = next-within d (r .at) (r .within); noted = r .noted })
+        rw (lt-ltb (c .place) 18446744073709551615 h) (record { at = next-at d (r .at) (r .within); within = after-within d s (c .end) refl; noted = r .noted })
 
     surplus-right : (c : Cursor) → Right c → surplusFindings s c ≡ law.findingsFrom d notes (split (d .element) s) (c .place) []
     unfolding law.findingsFrom
@@ -212,7 +212,7 @@ module _ (d : Delimiters) (s : Bytes) (rows : Guide) where
     codes-right : (c : Cursor) → Right c
         → findingsAt (codesAt d s rows c)
         ≡ map (found (c .place) (rowAt rows (c .row))) (placeCodes d notes (split (d .element) s) (rowAt rows (c .row)) (c .place))
-    unfolding findingsAt codesOf fieldAfter
+    unfolding findingsAt codesAt fieldAfter
     codes-right c r =
         let e = next-field d (r .at) (r .within) in
         rw (place-codes notes (split (d .element) s) (c .place) d (rowAt rows (c .row)), e, r .noted, code-is, ← present-length)

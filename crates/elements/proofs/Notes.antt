@@ -9,15 +9,14 @@ use borrow.Author.Tests.{eqb-true}
 use lib.Dec.{eqb}
 use lib.ListN.{length, getD, take, drop, drop-of-length-le, length-drop}
 use lib.Seq.{drop-cons, take-all}
-use Rattle.rules.specs.Base.{any, if_then_else_}
+use Rattle.rules.specs.Base.{any}
 use Rattle.rules.specs.Cutting.{Segment}
 use Rattle.rules.specs.Elements.{present, isPlace, afterPresent, lacking, excluded, lacks, shutsOut}
 use Rattle.rules.specs.Tables.{Syntax}
 use Rattle.tables.specs.Rows.{isRow, syntaxIn}
 use Rattle.rules.specs.declared.Relation.{Relation}
 use Rattle.rules.specs.declared.Relation.the-variants.{P, R, E, C, L}
-use Rattle.rules.proofs.Logic.{or-left, or-right}
-use Rattle.text.proofs.Loops.{and-false, or-false}
+use Rattle.text.proofs.Loops.{and-false}
 use Rattle.tables.specs.Reading.{Guide, noteAt}
 use Rattle.tables.proofs.Laws.{notes-here, notes-skip, notes-stop, notes-end}
 use Rattle.elements.specs.Notes.{breaks, isE}

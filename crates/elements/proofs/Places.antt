@@ -1,7 +1,7 @@
 -- The places of a segment: one field after the other, and the codes of each.
-use mathlib.Core.Path.{_≡_, refl, sym, ap, _∙_}
-use mathlib.Core.Bool.{Bool, true, false, _&&_, _||_, not, true≢false}
-use mathlib.Core.List.{List, [], _∷_, _++_, map}
+use mathlib.Core.Path.{_≡_, refl, sym}
+use mathlib.Core.Bool.{Bool, true, false, _&&_, _||_, not}
+use mathlib.Core.List.{List, [], _∷_}
 use Prim.Native.Nat.{ℕ, suc, _+_, _-_, _<_, _≤_}
 use native.Mathlib.Nat.{le-refl, le-of-suc-le-suc, not-suc-le-zero, add-zero}
 use native.Mathlib.Omega.{arith}
@@ -111,6 +111,24 @@ module _ (d : Delimiters) (s : Bytes) (end : ℕ) {start invalid next : ℕ} (a 
   unfolding fieldAfter
   field-after = rw (valid-is, next-is, a)
 
+-- it lies in the segment
+start-within : (s : Bytes) (end : ℕ) → nextStart s end ≤ length s
+unfolding nextStart
+start-within s end = go (ltb end (length s)) refl
+  where
+    go : (b : Bool) → ltb end (length s) ≡ b → (if b then end + 1 else length s) ≤ length s
+    go true h = omega (arith, ltb-true end (length s) h)
+    go false h = omega arith
+
+module _ (d : Delimiters) (s : Bytes) (end : ℕ) {f : Field} (e : f ≡ fieldAfter d s end) where
+  pub after-order : f .start ≤ f .end
+  unfolding fieldAfter
+  after-order = rw e (omega arith)
+
+  pub after-within : f .end ≤ length s
+  unfolding fieldAfter
+  after-within = rw e (find-le (d .element) s (nextStart s end) (start-within s end))
+
 -- field n, which follows the one that ends at `end`
 module _ (d : Delimiters) {s : Bytes} {n end : ℕ} (at : FieldAt (d .element) s n (end + 1)) (within : end ≤ length s) where
   abbrev f : Field
@@ -122,7 +140,7 @@ module _ (d : Delimiters) {s : Bytes} {n end : ℕ} (at : FieldAt (d .element) s
 
   over : length s ≤ end → nextStart s end ≡ end
   unfolding nextStart
-  over h = rw (le-ltb end (length s) h)
+  over h = rw (le-ltb end (length s) h) (omega arith)
 
   either : {X : Type 0} → (end < length s → X) → (length s ≤ end → X) → X
   either {X} g h = go (ltb end (length s)) refl
@@ -142,12 +160,6 @@ module _ (d : Delimiters) {s : Bytes} {n end : ℕ} (at : FieldAt (d .element) s
   next-at =
       either (λ h. rw (more h) (field-next at refl))
       (λ h. rw (over h, drop-of-length-le s {i = end} h, add-zero) (field-stay at (omega arith)))
-
-  pub next-within : f .end ≤ length s
-  unfolding fieldAfter
-  next-within =
-      either (λ h. rw (more h) (find-le (d .element) s (end + 1) (omega arith)))
-      (λ h. rw (over h) (find-le (d .element) s end within))
 
 -- 2. The codes of a place.
 -- code 1 is of an empty value, and codes 4 to 9 are of another

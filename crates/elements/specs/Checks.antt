@@ -1,10 +1,10 @@
 -- The check of a segment, place by place, as a function of the cursor: total, whatever the cursor says.
 use Prim.Native.Nat.{ℕ, _+_}
-use mathlib.Core.Bool.{Bool, true, false, _&&_, _||_, not}
+use mathlib.Core.Bool.{Bool, true, false, _||_, not}
 use mathlib.Core.List.{List, [], _∷_, _++_, map}
 use lib.Dec.{eqb, ltb}
-use lib.ListN.{length, getD, drop}
-use Rattle.rules.specs.Base.{Bytes, null, all, every, _⇒_, if_then_else_}
+use lib.ListN.{length, drop}
+use Rattle.rules.specs.Base.{Bytes, all, every, _⇒_, if_then_else_}
 use Rattle.rules.specs.Cutting.{split, valid}
 use Rattle.rules.specs.declared.Delimiters.{Delimiters}
 use Rattle.rules.specs.declared.Finding.{Finding}
@@ -38,9 +38,9 @@ placeAfter n = if ltb n 18446744073709551615 then n + 1 else n
 unfoldable pub noteRow : Guide → ℕ → ℕ
 noteRow rows k = nextWhere (λ r. isRow 4 r || isRow 1 r) rows k
 
--- where the field starts that follows the one which ends at `end`; `end` itself where none follows
+-- where the field starts that follows the one which ends at `end`; the segment's end where none follows
 unfoldable pub nextStart : Bytes → ℕ → ℕ
-nextStart s end = if ltb end (length s) then end + 1 else end
+nextStart s end = if ltb end (length s) then end + 1 else length s
 
 -- the field that follows the one which ends at `end`
 unfoldable pub fieldAfter : Delimiters → Bytes → ℕ → Field
@@ -65,9 +65,10 @@ abbrev pub surplusFindings : Bytes → Cursor → List Finding
 surplusFindings s c = if ltb (c .end) (length s) then record { place = c .place; reference = 0; code = 3 } ∷ [] else []
 
 module _ (d : Delimiters) (s : Bytes) (rows : Guide) where
-  -- the codes of the next place by the element of the next row
-  unfoldable pub codesOf : Cursor → Field → PlaceCodes
-  codesOf c f =
+  -- the codes of the next place by the element of the next row, in the next field
+  unfoldable pub codesAt : Cursor → PlaceCodes
+  codesAt c =
+      let f = fieldAfter d s (c .end) in
       let e = part s (f .start) (f .end) in
       let row = rowAt rows (c .row) in
       record {
@@ -77,10 +78,7 @@ module _ (d : Delimiters) (s : Bytes) (rows : Guide) where
         noted = noteCodeBy (ltb 0 (length e)) (syntaxIn (drop (c .notes) rows)) (split (d .element) s) (c .place);
       }
 
-  -- the codes at the cursor, and the cursor past them; past a row that is no element
-  abbrev pub codesAt : Cursor → PlaceCodes
-  codesAt c = codesOf c (fieldAfter d s (c .end))
-
+  -- the cursor past that place; past a row that is no element
   abbrev pub past : Cursor → Cursor
   past c = record { notes = c .notes; row = c .row + 1; place = placeAfter (c .place); end = fieldAfter d s (c .end) .end }
 

@@ -2,7 +2,7 @@
 use Prim.Native.Nat.{ℕ}
 use mathlib.Core.Bool.{Bool, true, false, _&&_, _||_, not}
 use mathlib.Core.List.{[], _∷_}
-use lib.Dec.{eqb, ltb}
+use lib.Dec.{ltb}
 use Rattle.rules.specs.Base.{Bytes, _⇒_, first, null, all, between, isDigit, member, if_then_else_}
 use Rattle.rules.specs.Elements.{isN0, isDT, isTM, unsigned, valueLength}
 use Rattle.rules.specs.Numbers.{isDate, isTime}

@@ -12,7 +12,7 @@ ghost use Rattle.tables.specs.Rows as rows;
 ghost use Rattle.tables.specs.Reading.{rowAt, noteAt, entryAt};
 ghost use Rattle.elements.specs.Values.{isText, unlisted, spelledAs, ruleCode, valueCode, takesLength, codeBy};
 ghost use Rattle.elements.specs.Notes.{isE, breaks, noteCodeBy};
-ghost use Rattle.elements.specs.Checks.{isSome, placeAfter, noteRow, nextStart, fieldAfter, codesOf, surplus, nextFound, start};
+ghost use Rattle.elements.specs.Checks.{isSome, placeAfter, noteRow, nextStart, fieldAfter, codesAt, surplus, nextFound, start};
 use rules::Delimiters;
 use rules::Kind;
 use rules::Relation;
@@ -305,14 +305,7 @@ fn shuts_out(relation: Relation) -> bool
 }
 
 // Row k is a note that is broken at place n, which is present or absent.
-fn breaks_note(
-    s: &[u8],
-    e: u8,
-    guide: &[[u16; 6]],
-    k: usize,
-    n: usize,
-    present: bool,
-) -> bool
+fn breaks_note(s: &[u8], e: u8, guide: &[[u16; 6]], k: usize, n: usize, present: bool) -> bool
     ensures { λ r. ⌜ r ≡ (rows.isRow 4 (getD (now (guide .entry)) k []) && breaks present (split e (now (s .entry))) n (noteAt (now (guide .entry)) k)) ⌝ }
 {
     if !tables::is_note(guide, k) {
@@ -329,14 +322,7 @@ fn breaks_note(
 }
 
 // A note from row `from` on is broken at place n, which is present or absent.
-fn breaks_notes(
-    s: &[u8],
-    e: u8,
-    guide: &[[u16; 6]],
-    from: usize,
-    n: usize,
-    present: bool,
-) -> bool
+fn breaks_notes(s: &[u8], e: u8, guide: &[[u16; 6]], from: usize, n: usize, present: bool) -> bool
     ensures { λ r. ⌜ r ≡ any (breaks present (split e (now (s .entry))) n) (rows.syntaxIn (drop from (now (guide .entry)))) ⌝ }
 {
     let mut k = from;
@@ -423,14 +409,14 @@ fn first_note(guide: &[[u16; 6]], from: usize) -> usize
     k
 }
 
-// Where the field starts that follows the one which ends at `end`; `end` itself where none follows.
+// Where the field starts that follows the one which ends at `end`; the segment's end where none follows.
 fn next_start(s: &[u8], end: usize) -> usize
     ensures { λ r. ⌜ r ≡ nextStart (now (s .entry)) end ⌝ }
 {
     if end < s.len() {
         return end + 1;
     }
-    end
+    s.len()
 }
 
 // A field: from where to where it lies, and whether its bytes are valid.
@@ -454,11 +440,14 @@ fn field_after(s: &[u8], d: Delimiters, end: usize) -> Field
     }
 }
 
-// The codes of the next place by the element of the next row.
+// The codes of the next place by the element of the next row, in the next field.
 fn codes_of(s: &[u8], d: Delimiters, guide: &[[u16; 6]], c: Cursor, field: Field) -> PlaceCodes
-    ensures { λ r. ⌜ r ≡ codesOf d (now (s .entry)) (now (guide .entry)) c field ⌝ }
+    requires { ⌜ field ≡ fieldAfter d (now s) (c .end) ⌝ }
+    ensures { λ r. ⌜ r ≡ codesAt d (now (s .entry)) (now (guide .entry)) c ⌝ }
 {
-    let e = text::part(s, field.start, field.end);
+    let start = field.start;
+    let end = field.end;
+    let e = &s[start..end];
     let row = tables::element_at(guide, c.row);
     PlaceCodes {
         place: c.place,
@@ -509,10 +498,7 @@ pub fn next_found(s: &[u8], d: Delimiters, guide: &[[u16; 6]], cursor: Cursor) -
     ensures { λ r. ⌜ r ≡ nextFound d (now (s .entry)) (now (guide .entry)) cursor ⌝ }
 {
     let mut c = cursor;
-    while c.row < guide.len() {
-        if tables::is_segment(guide, c.row) {
-            return surplus(s, c);
-        }
+    while c.row < guide.len() && !tables::is_segment(guide, c.row) {
         if !tables::is_element(guide, c.row) {
             c = next_row(c, c.place, c.end);
             continue;

@@ -1,3 +1,4 @@
+-- `elements::breaks_note` meets its contract.
 use Rattle.elements.proofs.Notes.{breaks-not, alike}
 use mathlib.Core.Path.{sym, ap, _∙_}
 use mathlib.Core.List.{List}
@@ -12,17 +13,8 @@ use borrow.Author.Needs.{needs}
 use Rattle.elements.proofs.breaks_note.Statement.{statement}
 use Rattle.elements.proofs.breaks_note.Tie as tie
 
-is-note-requires : tie.Need-is-note-requires
-is-note-requires c κs = search needs
-
 returns : tie.Need-returns
 returns c = rw (sym (c .before .is-note .ensures) ∙ not-true _ (c .if1 .taken))
-
-relation-at-requires : tie.Need-relation-at-requires
-relation-at-requires c κs = search needs
-
-shuts-out-requires : tie.Need-shuts-out-requires
-shuts-out-requires c κs = search needs
 
 returns-2 : tie.Need-returns-2
 returns-2 c =
@@ -31,9 +23,6 @@ returns-2 c =
     rw (sym (c .before .before .before .before .is-note .ensures) ∙ not-false _ (c .before .before .before .if1 .left))
     (sym (breaks-not (split (a .e) (a .s .now)) (a .n) (a .present) (note .relation) (note .places) (rw (c .before .shuts-out .ensures, c .before .before .relation-at .ensures) at (c .if2 .taken))))
 
-places-at-requires : tie.Need-places-at-requires
-places-at-requires c κs = search needs
-
 array-share-prefix-numbers : tie.Need-array-share-prefix-numbers
 array-share-prefix-numbers c =
     let a = c .before .before .before .before .before .before .before .before .args in
@@ -41,9 +30,6 @@ array-share-prefix-numbers c =
 
 slice-aggregate-is-broken : tie.Need-slice-aggregate-is-broken
 slice-aggregate-is-broken c = sym (length-take-le _ _ (array-share-prefix-numbers (c .before)))
-
-is-broken-requires : tie.Need-is-broken-requires
-is-broken-requires c κs = search needs
 
 returns-3 : tie.Need-returns-3
 returns-3 c =
@@ -58,13 +44,13 @@ pub breaks-note-spec : {M : Type 1} → statement M
 breaks-note-spec =
     tie.close
     (tie.spec
-    is-note-requires
+    (λ c κs. search needs)
     returns
-    relation-at-requires
-    shuts-out-requires
+    (λ c κs. search needs)
+    (λ c κs. search needs)
     returns-2
-    places-at-requires
+    (λ c κs. search needs)
     array-share-prefix-numbers
     slice-aggregate-is-broken
-    is-broken-requires
+    (λ c κs. search needs)
     returns-3)

@@ -1,3 +1,4 @@
+-- `elements::breaks_notes` meets its contract.
 use borrow.Author.Needs.{needs}
 use mathlib.Core.Path.{_≡_, sym, _∙_}
 use mathlib.Core.Bool.{true, false}
@@ -17,17 +18,8 @@ Inv-loop s e guide from n present k₀ k = any (breaks present (split e s) n) (s
 abbrev μ-loop : tie.MeasureT-loop
 μ-loop s e guide from n present k₀ k = length guide - k
 
-loop-holds : tie.Need-loop-holds Inv-loop μ-loop
-loop-holds c = search needs
-
-is-segment-requires : tie.Need-is-segment-requires Inv-loop μ-loop
-is-segment-requires c κs = search needs
-
 returns : tie.Need-returns Inv-loop μ-loop
 returns c = sym (c .before .before .before .loop .inv ∙ notes-over _ (c .before .before .before .before .before .args .guide .now) (c .before .before .before .loop .k) (sym (c .before .is-segment .ensures) ∙ c .if1 .taken))
-
-breaks-note-requires : tie.Need-breaks-note-requires Inv-loop μ-loop
-breaks-note-requires c κs = search needs
 
 returns-2 : tie.Need-returns-2 Inv-loop μ-loop
 returns-2 c =
@@ -35,12 +27,6 @@ returns-2 c =
     ∙ notes-step _ (c .before .before .before .before .before .before .before .args .guide .now) (c .before .before .before .before .before .loop .k) true
     (sym (c .before .before .before .is-segment .ensures) ∙ c .before .before .if1 .left)
     (sym (c .if2 .taken) ∙ c .before .breaks-note .ensures))
-
-add-k : tie.Need-add-k Inv-loop μ-loop
-add-k c = search needs
-
-loop-less : tie.Need-loop-less Inv-loop μ-loop
-loop-less c = search needs
 
 loop-again : tie.Need-loop-again Inv-loop μ-loop
 loop-again c =
@@ -58,12 +44,12 @@ breaks-notes-spec =
     (tie.spec
     Inv-loop
     μ-loop
-    loop-holds
-    is-segment-requires
+    (λ c. search needs)
+    (λ c κs. search needs)
     returns
-    breaks-note-requires
+    (λ c κs. search needs)
     returns-2
-    add-k
-    loop-less
+    (λ c. search needs)
+    (λ c. search needs)
     loop-again
     returns-3)

@@ -1,25 +1,31 @@
-use Rattle.elements.specs.Checks as checks
+-- `elements::codes_of` meets its contract.
+use Rattle.elements.specs.Checks.{codesAt}
+use Rattle.elements.proofs.Places.{after-order, after-within}
 use borrow.Author.Needs.{needs}
 use Rattle.elements.proofs.codes_of.Statement.{statement}
 use Rattle.elements.proofs.codes_of.Tie as tie
 
-part-requires : tie.Need-part-requires
-part-requires c κs = search needs
+sub-e : tie.Need-sub-e
+sub-e c = let a = c .before .args in after-order (a .d) (a .s .now) (a .c .end) (c .before .pre)
 
-element-at-requires : tie.Need-element-at-requires
-element-at-requires c κs = search needs
+part-e-start : tie.Need-part-e-start
+part-e-start c = let a = c .before .args in after-order (a .d) (a .s .now) (a .c .end) (c .before .pre)
 
-own-code-requires : tie.Need-own-code-requires
-own-code-requires c κs = search needs
-
-note-code-requires : tie.Need-note-code-requires
-note-code-requires c κs = search needs
+part-e-end : tie.Need-part-e-end
+part-e-end c = let a = c .before .args in after-within (a .d) (a .s .now) (a .c .end) (c .before .pre)
 
 returns : tie.Need-returns
-unfolding checks.codesOf
-returns c = rw (c .note-code .ensures, c .before .own-code .ensures, c .before .before .element-at .ensures, c .before .before .before .part .ensures)
+unfolding codesAt
+returns c = rw (c .note-code .ensures, c .before .own-code .ensures, c .before .before .element-at .ensures, c .before .before .before .before .before .pre)
 
 pub codes-of-spec : {M : Type 1} → statement M
 codes-of-spec =
     tie.close
-    (tie.spec part-requires element-at-requires own-code-requires note-code-requires returns)
+    (tie.spec
+    sub-e
+    part-e-start
+    part-e-end
+    (λ c κs. search needs)
+    (λ c κs. search needs)
+    (λ c κs. search needs)
+    returns)

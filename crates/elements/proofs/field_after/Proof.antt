@@ -1,20 +1,12 @@
+-- `elements::field_after` meets its contract.
 use Rattle.elements.proofs.Places as places
 use borrow.Author.Needs.{needs}
 use Rattle.elements.proofs.field_after.Statement.{statement}
 use Rattle.elements.proofs.field_after.Tie as tie
-
-next-start-requires : tie.Need-next-start-requires
-next-start-requires c κs = search needs
-
-find-invalid-requires : tie.Need-find-invalid-requires
-find-invalid-requires c κs = search needs
-
-find-near-requires : tie.Need-find-near-requires
-find-near-requires c κs = search needs
 
 returns : tie.Need-returns
 returns c = let a = c .before .before .before .before .args in places.field-after (a .d) (a .s .now) (a .end) (c .before .before .next-start .ensures) (c .before .find-invalid .ensures) (c .find-near .ensures)
 
 pub field-after-spec : {M : Type 1} → statement M
 field-after-spec =
-    tie.close (tie.spec next-start-requires find-invalid-requires find-near-requires returns)
+    tie.close (tie.spec (λ c κs. search needs) (λ c κs. search needs) (λ c κs. search needs) returns)

@@ -1,3 +1,4 @@
+-- `elements::first_note` meets its contract.
 use borrow.Author.Needs.{needs}
 use Prim.Native.Nat.{_-_}
 use mathlib.Core.Path.{_≡_, sym, _∙_}
@@ -14,24 +15,9 @@ Inv-loop guide from k₀ k = noteRow guide from ≡ noteRow guide k
 abbrev μ-loop : tie.MeasureT-loop
 μ-loop guide from k₀ k = length guide - k
 
-loop-holds : tie.Need-loop-holds Inv-loop μ-loop
-loop-holds c = search needs
-
-is-note-requires : tie.Need-is-note-requires Inv-loop μ-loop
-is-note-requires c κs = search needs
-
-is-segment-requires : tie.Need-is-segment-requires Inv-loop μ-loop
-is-segment-requires c κs = search needs
-
 returns : tie.Need-returns Inv-loop μ-loop
 unfolding noteRow
 returns c = sym (c .before .before .before .before .loop .inv ∙ next-here _ _ [] _ (c .before .before .before .loop-test .taken) (rw (← c .before .before .is-note .ensures, ← c .before .is-segment .ensures) (c .if1 .taken)))
-
-add-k : tie.Need-add-k Inv-loop μ-loop
-add-k c = search needs
-
-loop-less : tie.Need-loop-less Inv-loop μ-loop
-loop-less c = search needs
 
 loop-again : tie.Need-loop-again Inv-loop μ-loop
 unfolding noteRow
@@ -47,11 +33,11 @@ first-note-spec =
     (tie.spec
     Inv-loop
     μ-loop
-    loop-holds
-    is-note-requires
-    is-segment-requires
+    (λ c. search needs)
+    (λ c κs. search needs)
+    (λ c κs. search needs)
     returns
-    add-k
-    loop-less
+    (λ c. search needs)
+    (λ c. search needs)
     loop-again
     returns-2)

@@ -1,3 +1,4 @@
+-- `elements::is_clean` meets its contract.
 use mathlib.Core.Path.{sym, ap, _∙_}
 use Rattle.rules.specs.Base.{null}
 use Rattle.elements.specs.Checks.{start}
@@ -7,12 +8,6 @@ use borrow.Author.Needs.{needs}
 use Rattle.elements.proofs.is_clean.Statement.{statement}
 use Rattle.elements.proofs.is_clean.Tie as tie
 
-first-found-requires : tie.Need-first-found-requires
-first-found-requires c κs = search needs
-
-is-some-requires : tie.Need-is-some-requires
-is-some-requires c κs = search needs
-
 returns : tie.Need-returns
 returns c =
     let a = c .before .before .before .args in
@@ -21,4 +16,4 @@ returns c =
     ∙ ap null (left-start (a .d) (a .s .now) (a .guide .now) (a .entry) (omega arith)))
 
 pub is-clean-spec : {M : Type 1} → statement M
-is-clean-spec = tie.close (tie.spec first-found-requires is-some-requires returns)
+is-clean-spec = tie.close (tie.spec (λ c κs. search needs) (λ c κs. search needs) returns)

@@ -1,11 +1,13 @@
-use borrow.Author.Needs.{needs}
-use mathlib.Core.Path.{_≡_, sym, ap, _∙_}
-use Rattle.elements.specs.declared.Cursor.{Cursor}
+-- `elements::next_found` meets its contract.
 use Prim.Native.Nat.{_-_}
+use mathlib.Core.Path.{_≡_, sym, ap, _∙_}
+use mathlib.Core.Logic.{⊎-elim}
 use lib.ListN.{length}
 use borrow.Author.Tests.{not-true, not-false}
 use Rattle.elements.specs.Checks.{nextFound}
+use Rattle.elements.specs.declared.Cursor.{Cursor}
 use Rattle.elements.proofs.Checks.{found-end, found-stop, found-over, found-here, found-later}
+use borrow.Author.Needs.{needs}
 use native.Mathlib.Omega.{arith}
 use Rattle.elements.proofs.next_found.Statement.{statement}
 use Rattle.elements.proofs.next_found.Tie as tie
@@ -16,27 +18,6 @@ Inv-loop s d guide c₀ c = nextFound d s guide c₀ ≡ nextFound d s guide c
 abbrev μ-loop : tie.MeasureT-loop
 μ-loop s d guide c₀ c = length guide - c .row
 
-loop-holds : tie.Need-loop-holds Inv-loop μ-loop
-loop-holds c = search needs
-
-is-segment-requires : tie.Need-is-segment-requires Inv-loop μ-loop
-is-segment-requires c κs = search needs
-
-surplus-requires : tie.Need-surplus-requires Inv-loop μ-loop
-surplus-requires c κs = search needs
-
-returns : tie.Need-returns Inv-loop μ-loop
-returns c =
-    let a = c .before .before .before .before .before .before .before .args in
-    c .surplus .ensures
-    ∙ sym (c .before .before .before .before .before .loop .inv ∙ found-stop (a .d) (a .s .now) (a .guide .now) (c .before .before .before .before .before .loop .c) (c .before .before .before .if1 .taken) (sym (c .before .before .is-segment .ensures) ∙ c .before .if2 .taken))
-
-is-element-requires : tie.Need-is-element-requires Inv-loop μ-loop
-is-element-requires c κs = search needs
-
-next-row-requires : tie.Need-next-row-requires Inv-loop μ-loop
-next-row-requires c κs = search needs
-
 loop-less : tie.Need-loop-less Inv-loop μ-loop
 loop-less c = omega (arith, ap (λ (v : Cursor). v .row) (c .next-row .ensures))
 
@@ -44,27 +25,18 @@ loop-again : tie.Need-loop-again Inv-loop μ-loop
 loop-again c =
     let a = c .before .before .before .before .before .before .before .before .before .args in
     c .before .before .before .before .before .before .before .loop .inv
-    ∙ found-over (a .d) (a .s .now) (a .guide .now) (c .before .before .before .before .before .before .before .loop .c) (c .before .before .before .before .before .if1 .taken) (sym (c .before .before .before .before .is-segment .ensures) ∙ c .before .before .before .if2 .left) (sym (c .before .before .is-element .ensures) ∙ not-true _ (c .before .if3 .taken))
+    ∙ found-over (a .d) (a .s .now) (a .guide .now) (c .before .before .before .before .before .before .before .loop .c) (c .before .before .before .before .before .if1 .taken) (sym (c .before .before .before .before .is-segment .ensures) ∙ not-true _ (c .before .before .before .if2 .taken)) (sym (c .before .before .is-element .ensures) ∙ not-true _ (c .before .if3 .taken))
     ∙ rw (c .next-row .ensures)
 
-field-after-requires : tie.Need-field-after-requires Inv-loop μ-loop
-field-after-requires c κs = search needs
-
 codes-of-requires : tie.Need-codes-of-requires Inv-loop μ-loop
-codes-of-requires c κs = search needs
+codes-of-requires c κs = c .field-after .ensures
 
-place-after-requires : tie.Need-place-after-requires Inv-loop μ-loop
-place-after-requires c κs = search needs
-
-next-row-requires-2 : tie.Need-next-row-requires-2 Inv-loop μ-loop
-next-row-requires-2 c κs = search needs
-
-returns-2 : tie.Need-returns-2 Inv-loop μ-loop
-returns-2 c =
+returns : tie.Need-returns Inv-loop μ-loop
+returns c =
     let a = c .before .before .before .before .before .before .before .before .before .before .before .before .before .before .before .args in
     rw (c .before .before .before .before .before .codes-of .ensures, c .before .before .before .next-row2 .ensures, c .before .before .before .before .place-after .ensures, c .before .before .before .before .before .before .field-after .ensures)
     (sym (c .before .before .before .before .before .before .before .before .before .before .before .before .before .loop .inv
-    ∙ found-here (a .d) (a .s .now) (a .guide .now) (c .before .before .before .before .before .before .before .before .before .before .before .before .before .loop .c) (c .before .before .before .before .before .before .before .before .before .before .before .if1 .taken) (sym (c .before .before .before .before .before .before .before .before .before .before .is-segment .ensures) ∙ c .before .before .before .before .before .before .before .before .before .if2 .left) (sym (c .before .before .before .before .before .before .before .before .is-element .ensures) ∙ not-false _ (c .before .before .before .before .before .before .before .if3 .left)) (rw (c .before .before .before .before .before .codes-of .ensures, c .before .before .before .before .before .before .field-after .ensures) at (c .if4 .taken))))
+    ∙ found-here (a .d) (a .s .now) (a .guide .now) (c .before .before .before .before .before .before .before .before .before .before .before .before .before .loop .c) (c .before .before .before .before .before .before .before .before .before .before .before .if1 .taken) (sym (c .before .before .before .before .before .before .before .before .before .before .is-segment .ensures) ∙ not-true _ (c .before .before .before .before .before .before .before .before .before .if2 .taken)) (sym (c .before .before .before .before .before .before .before .before .is-element .ensures) ∙ not-false _ (c .before .before .before .before .before .before .before .if3 .left)) (rw (c .before .before .before .before .before .codes-of .ensures) at (c .if4 .taken))))
 
 loop-less-2 : tie.Need-loop-less-2 Inv-loop μ-loop
 loop-less-2 c = omega (arith, ap (λ (v : Cursor). v .row) (c .before .before .before .next-row2 .ensures))
@@ -74,15 +46,15 @@ loop-again-2 c =
     let a = c .before .before .before .before .before .before .before .before .before .before .before .before .before .before .before .args in
     rw (c .before .before .before .next-row2 .ensures, c .before .before .before .before .place-after .ensures, c .before .before .before .before .before .before .field-after .ensures)
     (c .before .before .before .before .before .before .before .before .before .before .before .before .before .loop .inv
-    ∙ found-later (a .d) (a .s .now) (a .guide .now) (c .before .before .before .before .before .before .before .before .before .before .before .before .before .loop .c) (c .before .before .before .before .before .before .before .before .before .before .before .if1 .taken) (sym (c .before .before .before .before .before .before .before .before .before .before .is-segment .ensures) ∙ c .before .before .before .before .before .before .before .before .before .if2 .left) (sym (c .before .before .before .before .before .before .before .before .is-element .ensures) ∙ not-false _ (c .before .before .before .before .before .before .before .if3 .left)) (rw (c .before .before .before .before .before .codes-of .ensures, c .before .before .before .before .before .before .field-after .ensures) at (c .if4 .left)))
+    ∙ found-later (a .d) (a .s .now) (a .guide .now) (c .before .before .before .before .before .before .before .before .before .before .before .before .before .loop .c) (c .before .before .before .before .before .before .before .before .before .before .before .if1 .taken) (sym (c .before .before .before .before .before .before .before .before .before .before .is-segment .ensures) ∙ not-true _ (c .before .before .before .before .before .before .before .before .before .if2 .taken)) (sym (c .before .before .before .before .before .before .before .before .is-element .ensures) ∙ not-false _ (c .before .before .before .before .before .before .before .if3 .left)) (rw (c .before .before .before .before .before .codes-of .ensures) at (c .if4 .left)))
 
-surplus-requires-2 : tie.Need-surplus-requires-2 Inv-loop μ-loop
-surplus-requires-2 c κs = search needs
-
-returns-3 : tie.Need-returns-3 Inv-loop μ-loop
-returns-3 c =
+returns-2 : tie.Need-returns-2 Inv-loop μ-loop
+returns-2 c =
     let a = c .before .before .before .before .before .args in
-    c .surplus2 .ensures ∙ sym (c .before .before .before .loop .inv ∙ found-end (a .d) (a .s .now) (a .guide .now) (c .before .before .before .loop .c) (c .before .if1 .left))
+    let v = c .before .before .before .loop .c in
+    c .surplus .ensures
+    ∙ sym (c .before .before .before .loop .inv
+    ∙ ⊎-elim (λ w. found-stop (a .d) (a .s .now) (a .guide .now) v (w .0 .taken) (sym (w .1 .ensures) ∙ not-false _ (w .2 .left))) (λ w. found-end (a .d) (a .s .now) (a .guide .now) v (w .left)) (c .before .if1 .came))
 
 pub next-found-spec : {M : Type 1} → statement M
 next-found-spec =
@@ -90,20 +62,18 @@ next-found-spec =
     (tie.spec
     Inv-loop
     μ-loop
-    loop-holds
-    is-segment-requires
-    surplus-requires
-    returns
-    is-element-requires
-    next-row-requires
+    (λ c. search needs)
+    (λ c κs. search needs)
+    (λ c κs. search needs)
+    (λ c κs. search needs)
     loop-less
     loop-again
-    field-after-requires
+    (λ c κs. search needs)
     codes-of-requires
-    place-after-requires
-    next-row-requires-2
-    returns-2
+    (λ c κs. search needs)
+    (λ c κs. search needs)
+    returns
     loop-less-2
     loop-again-2
-    surplus-requires-2
-    returns-3)
+    (λ c κs. search needs)
+    returns-2)

@@ -1,11 +1,9 @@
+-- `elements::note_code` meets its contract.
 use mathlib.Core.Path.{sym, _∙_}
 use borrow.Author.Tests.{not-true, not-false}
 use borrow.Author.Needs.{needs}
 use Rattle.elements.proofs.note_code.Statement.{statement}
 use Rattle.elements.proofs.note_code.Tie as tie
-
-breaks-notes-requires : tie.Need-breaks-notes-requires
-breaks-notes-requires c κs = search needs
 
 returns : tie.Need-returns
 returns c = rw (sym (c .before .breaks-notes .ensures) ∙ not-true (c .before .breaks-notes .result) (c .if1 .taken))
@@ -17,4 +15,4 @@ returns-3 : tie.Need-returns-3
 returns-3 c = rw (sym (c .before .before .breaks-notes .ensures) ∙ not-false (c .before .before .breaks-notes .result) (c .before .if1 .left), c .if2 .left)
 
 pub note-code-spec : {M : Type 1} → statement M
-note-code-spec = tie.close (tie.spec breaks-notes-requires returns returns-2 returns-3)
+note-code-spec = tie.close (tie.spec (λ c κs. search needs) returns returns-2 returns-3)

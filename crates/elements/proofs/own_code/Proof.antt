@@ -1,3 +1,4 @@
+-- `elements::own_code` meets its contract.
 use mathlib.Core.Path.{sym, _∙_}
 use borrow.Author.Tests.{not-true, not-false}
 use Rattle.tables.specs.Reading.{rowAt}
@@ -5,9 +6,6 @@ use Rattle.elements.proofs.Codes.{code-empty, code-filled, takes-length
 use borrow.Author.Needs.{needs}
 use Rattle.elements.proofs.own_code.Statement.{statement}
 use Rattle.elements.proofs.own_code.Tie as tie
-
-empty-code-requires : tie.Need-empty-code-requires
-empty-code-requires c κs = search needs
 
 returns : tie.Need-returns
 returns c =
@@ -19,18 +17,12 @@ returns-2 c =
     let a = c .before .before .before .args in
     sym (code-filled (rowAt (a .guide .now) (a .k)) (a .e .now) (a .valid) (c .before .if1 .left) ∙ rw (not-true (a .valid) (c .if2 .taken)))
 
-takes-length-requires : tie.Need-takes-length-requires
-takes-length-requires c κs = search needs
-
 returns-3 : tie.Need-returns-3
 returns-3 c =
     let a = c .before .before .before .before .before .args in
     let r = rowAt (a .guide .now) (a .k) in
     let plain = takes-length r (a .e .now) (sym (c .before .takes-length .ensures) ∙ c .if3 .taken) in
     sym (code-filled r (a .e .now) (a .valid) (c .before .before .before .if1 .left) ∙ rw (not-false (a .valid) (c .before .before .if2 .left), plain))
-
-value-code-requires : tie.Need-value-code-requires
-value-code-requires c κs = search needs
 
 returns-4 : tie.Need-returns-4
 returns-4 c =
@@ -41,10 +33,10 @@ pub own-code-spec : {M : Type 1} → statement M
 own-code-spec =
     tie.close
     (tie.spec
-    empty-code-requires
+    (λ c κs. search needs)
     returns
     returns-2
-    takes-length-requires
+    (λ c κs. search needs)
     returns-3
-    value-code-requires
+    (λ c κs. search needs)
     returns-4)

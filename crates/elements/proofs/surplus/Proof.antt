@@ -1,3 +1,4 @@
+-- `elements::surplus` meets its contract.
 use borrow.Author.Tests.{lt-ltb, le-ltb}
 use Rattle.elements.specs.Checks as checks
 use Rattle.elements.proofs.surplus.Statement.{statement}
