@@ -77,10 +77,13 @@ use Rattle.verdicts.proofs.Codes.none.Reads as verdicts-Codes-none
 use Rattle.verdicts.proofs.Codes.is_empty.Reads as verdicts-Codes-is-empty
 use Rattle.verdicts.proofs.set_codes.Reads as verdicts-set-codes
 use Rattle.verdicts.proofs.summary_of.Reads as verdicts-summary-of
-use Rattle.elements.proofs.next_code.Reads as elements-next-code
+use Rattle.elements.proofs.Found.is_some.Reads as elements-Found-is-some
+use Rattle.elements.proofs.next_found.Reads as elements-next-found
+use Rattle.elements.proofs.first_found.Reads as elements-first-found
 use Rattle.elements.proofs.is_clean.Reads as elements-is-clean
 use Rattle.findings.proofs.start.Reads as findings-start
 use Rattle.findings.proofs.next.Reads as findings-next
+use Rattle.findings.proofs.next_missing.Reads as findings-next-missing
 use Rattle.findings.proofs.is_noted.Reads as findings-is-noted
 use Rattle.writing.proofs.clipped.Reads as writing-clipped
 use Rattle.writing.proofs.joined.Reads as writing-joined
@@ -345,8 +348,14 @@ verdicts-summary-of-once : Determined verdicts-summary-of.Pre verdicts-summary-o
 verdicts-summary-of-once = ((λ κs a. tt), λ κs a r₁ r₂ s₁ s₂ p q. p ∙ sym q)
 
 -- elements
-elements-next-code-once : Determined elements-next-code.Pre elements-next-code.Post (λ κs r s. r)
-elements-next-code-once = ((λ κs a. tt), λ κs a r₁ r₂ s₁ s₂ p q. p ∙ sym q)
+elements-Found-is-some-once : Determined elements-Found-is-some.Pre elements-Found-is-some.Post (λ κs r s. r)
+elements-Found-is-some-once = ((λ κs a. tt), λ κs a r₁ r₂ s₁ s₂ p q. p ∙ sym q)
+
+elements-next-found-once : Determined elements-next-found.Pre elements-next-found.Post (λ κs r s. r)
+elements-next-found-once = ((λ κs a. tt), λ κs a r₁ r₂ s₁ s₂ p q. p ∙ sym q)
+
+elements-first-found-once : Determined elements-first-found.Pre elements-first-found.Post (λ κs r s. r)
+elements-first-found-once = ((λ κs a. tt), λ κs a r₁ r₂ s₁ s₂ p q. p ∙ sym q)
 
 elements-is-clean-once : Determined elements-is-clean.Pre elements-is-clean.Post (λ κs r s. r)
 elements-is-clean-once = ((λ κs a. tt), λ κs a r₁ r₂ s₁ s₂ p q. p ∙ sym q)
@@ -357,6 +366,9 @@ findings-start-once = ((λ κs a. tt), λ κs a r₁ r₂ s₁ s₂ p q. p ∙ s
 
 findings-next-once : Determined findings-next.Pre findings-next.Post (λ κs r s. r)
 findings-next-once = ((λ κs a. tt), λ κs a r₁ r₂ s₁ s₂ p q. p ∙ sym q)
+
+findings-next-missing-once : Determined findings-next-missing.Pre findings-next-missing.Post (λ κs r s. r)
+findings-next-missing-once = ((λ κs a. tt), λ κs a r₁ r₂ s₁ s₂ p q. p ∙ sym q)
 
 findings-is-noted-once : Determined findings-is-noted.Pre findings-is-noted.Post (λ κs r s. r)
 findings-is-noted-once = ((λ κs a. tt), λ κs a r₁ r₂ s₁ s₂ p q. p ∙ sym q)
