@@ -29,11 +29,11 @@ use rules::SegmentCode;
 use tables::SegmentId;
 
 // What is told of one segment, an AK3: its codes are its own, where that is not 0, and 8, where it is faulty.
-pub struct Line {
-    pub id: SegmentId,
-    pub position: usize,
-    pub own: u8,
-    pub faulty: bool,
+struct Line {
+    id: SegmentId,
+    position: usize,
+    own: u8,
+    faulty: bool,
 }
 
 fn byte_at(s: &[u8], i: usize) -> u8
