@@ -8,7 +8,7 @@ use native.Mathlib.Omega.{arith}
 use borrow.Author.Tests.{ne-eqb}
 use lib.Dec.{eqb}
 use lib.ListN.{length, take, drop, length-append, length-take, length-drop}
-use Rattle.rules.specs.Base.{Bytes, _⇒_, every, ascii, null, any, isNone, member, if_then_else_}
+use Rattle.rules.specs.Base.{Bytes, every, ascii, null, isNone, member, if_then_else_}
 use Rattle.rules.specs.Cutting.{Segment, field, split, segments}
 use Rattle.rules.specs.Numbers.{decimal}
 use Rattle.rules.specs.Tables.{Table}
@@ -28,7 +28,7 @@ use Rattle.sets.specs.Places.{setAt}
 use Rattle.sets.specs.declared.SetAt.{SetAt}
 use Rattle.sets.proofs.Sets.{SetIs, setIn, header-at}
 use Rattle.verdicts.specs.Collecting.{codesOf, collected}
-use Rattle.verdicts.specs.Verdicts.{trailerIf, otherControl, otherCount, setCodeRules}
+use Rattle.verdicts.specs.Verdicts.{trailerIf, setCodeRules}
 use Rattle.verdicts.specs.declared.Codes.{Codes}
 use Rattle.verdicts.proofs.Laws.{closed-if, trailer-if, set-codes}
 use Rattle.findings.specs.Events.{flat, written}
@@ -45,7 +45,7 @@ use Rattle.notes.specs.declared.Told.{Told}
 use Rattle.acknowledgment.specs.Writers.{TellsFrom, Measures}
 use Rattle.acknowledgment.specs.Received.{tableBy, Scoped, receivedAt, setOf, reportOf, ReceivedIs}
 use Rattle.acknowledgment.specs.declared.set_block.ReceivedSet.{ReceivedSet}
-use Rattle.acknowledgment.specs.Surveys.{setHere, reportAt, markOf, acceptance}
+use Rattle.acknowledgment.specs.Surveys.{setHere, reportAt, acceptance}
 
 -- 1. The parts of a set.
 -- These are the bytes of a set of n segments, of its header and, where it is closed, of its trailer.
@@ -116,21 +116,6 @@ pub there-is : (ids : List (List ℕ)) (rows : Guide) (t : TableAt) → isThere 
 there-is ids rows (Rows from end) = refl
 there-is ids rows Nowhere = refl
 
--- a set with a number of its own has no code where it has none without its notes, and no notes
-notes-reject : (t : Option Table) (ns : List Note) (s : Set) → null (setCodes t ns [] s) ≡ null (setCodes t [] [] s) && null ns
-unfolding setCodes every any
-notes-reject t ns s =
-    go (isNone t) (isNone (s .trailer)) (otherControl (controlOf s) (s .trailer)) (otherCount 10 (length (segmentsOf s)) (s .trailer)) (null ns)
-  where
-    go : (a b c e n : Bool) → null (every ((a ⇒ 1) ∷ (b ⇒ 2) ∷ (c ⇒ 3) ∷ (e ⇒ 4) ∷ (not n ⇒ 5) ∷ (false ⇒ 23) ∷ []))
-        ≡ null (every ((a ⇒ 1) ∷ (b ⇒ 2) ∷ (c ⇒ 3) ∷ (e ⇒ 4) ∷ (false ⇒ 5) ∷ (false ⇒ 23) ∷ [])) && n
-    go true b c e n = refl
-    go false true c e n = refl
-    go false false true e n = refl
-    go false false false true n = refl
-    go false false false false true = refl
-    go false false false false false = refl
-
 -- a set without a table has a code
 pub nowhere-rejects : (d : Delimiters) (s : Set) → false ≡ accepted (setReport d none [] s)
 unfolding setReport setCodes every
@@ -156,16 +141,6 @@ module _ {d : Delimiters} {s : Set} {closed : Bool} {n : ℕ} {bs st se : Bytes}
     -- what the walk says is its notes
     pub notes-are : map written (events (remaining bs d ids rows closed start)) ≡ ak3s notes
     notes-are = rw events-are (written-flat _)
-
-    -- no code but 5 and 23, and no note
-    pub clean-is : (codes : Codes) {fine r : Bool} → codesOf codes ≡ setCodes (some (tableOf ids rows)) [] [] s → fine ≡ null (codesOf codes)
-        → r ≡ fine && not (not (null (events (remaining bs d ids rows closed start))))
-        → r ≡ accepted (setReport d (some (tableOf ids rows)) [] s)
-    unfolding setReport
-    clean-is codes f g h =
-        h
-        ∙ rw (g, f, events-are, null-flat notes, Bool·not-not (null notes))
-        (sym (notes-reject (some (tableOf ids rows)) notes s))
 
 -- what is written of a set is the block of its report
 pub block-of : {d : Delimiters} (st : Bytes) (s : Set) (t : Option Table) (earlier : List Bytes) (codes : Codes) {told : Told} {k l m : ℕ} {o o₁ o₂ o₃ : Bytes}
@@ -199,11 +174,6 @@ module _ {d : Delimiters} {body : Bytes} {at : ℕ} {place : SetAt} (q : place �
       ∙ ap (λ (r : SetAt). setReport d (tableBy ids rows scope (setIn d body at r)) earlier (setIn d body at r)) q
 
   module _ (ids : List (List ℕ)) (rows : Guide) (scope : Scope) (repeated : Bool) {set : ReceivedSet} (e : set ≡ receivedAt d scope body place repeated) where
-    -- its mark is by that report
-    pub mark-received : {m : ℕ} → m ≡ markOf (set .repeated) (reportOf d ids rows body set [])
-        → m ≡ markOf repeated (reportAt d (tableBy ids rows scope) body at [])
-    mark-received f = rw (← report-received ids rows scope repeated []) (rw e at f)
-
     -- what is written of it, or measured, is the block of that report
     pub block-received : (earlier : List Bytes) {r : Told} {o o′ : Bytes}
         → (set .repeated ≡ member (controlOf (setOf d body set)) earlier → Tells d (block (reportOf d ids rows body set earlier)) r o o′)

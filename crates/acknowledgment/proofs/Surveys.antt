@@ -63,17 +63,6 @@ module _ {d : Delimiters} {body : Bytes} {starts links : List ℕ} {k at : ℕ} 
     entered = entered-next e (omega (arith, room .number)) (room .start) (room .link) at r searched;
   }
 
--- the number that is read of a set's header
-pub control-here : {d : Delimiters} {body st control : Bytes} {at : ℕ} {r : SetAt} → SetIs d body at r
-    → st ≡ part body at (r .header) → control ≡ field (split (d .element) st) 2 → control ≡ controlAt d body at
-control-here {d} is p f =
-    f ∙ ap (λ (st : Bytes). field (split (d .element) st) 2) p ∙ ap (λ (st : Segment). field st 2) (sym (is .header)) ∙ is .control
-
--- a set is entered where it starts
-pub entered-at : {d : Delimiters} {body : Bytes} {at : ℕ} {r : SetAt} {starts starts′ links : List ℕ} {k : ℕ} {q : Bool} → SetIs d body at r
-    → EnteredNext d body starts k (r .start) q starts′ links → EnteredNext d body starts k at q starts′ links
-entered-at is e = rw (is .starts) at e
-
 -- 2. The loop.
 -- one more where the first is accepted
 accepted-next : (r : SetReport) (rs : List SetReport) (a : ℕ) (b : Bool) → b ≡ accepted r

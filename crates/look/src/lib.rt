@@ -76,7 +76,7 @@ fn turn_on(id: &[u8], guide: &[[u16; 6]], c: Course) -> Turn
     }
 }
 
-// After the segment with this id, whose entry is in a row and used so often, and which ends at `end`: SE closes the set, ST opens another.
+// Where a look comes to after a segment with this id, which the cursor stands behind: SE closes the set, ST opens another.
 fn after(id: &[u8], c: Course) -> Step
     ensures { λ r. ⌜ r ≡ afterward (now (id .entry)) c ⌝ }
 {
