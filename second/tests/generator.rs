@@ -4,7 +4,7 @@ use second::exchange::{exchange, RESPONSE_BUFFER};
 use second::generator::coverage::{all_outcomes, Coverage, Outcome};
 use second::generator::{cases, standard_input, Case, Family};
 use second::{answer, Answer};
-use std::collections::BTreeSet;
+use std::collections::{BTreeMap, BTreeSet};
 
 const SEED: u64 = 990;
 
@@ -90,6 +90,72 @@ fn the_limits_of_size_are_met_from_both_sides() {
     for length in [105, 106, 107, 65_535, 65_536, 65_537] {
         assert!(lengths.contains(&length), "{length}");
     }
+}
+
+/// The caller's date, GS04 and each B103 of a case, so far as they are numbers.
+fn days(case: &Case) -> Vec<(&'static str, u32)> {
+    let (separator, terminator) = (case.interchange[3], case.interchange[105]);
+    let mut days = vec![("caller", case.date)];
+    for segment in case.interchange.split(|&byte| byte == terminator) {
+        let elements: Vec<&[u8]> = segment.split(|&byte| byte == separator).collect();
+        let (place, element) = match elements[..] {
+            [b"GS", _, _, _, gs04, ..] => ("GS04", gs04),
+            [b"B1", _, _, b103, ..] => ("B103", b103),
+            _ => continue,
+        };
+        let day = String::from_utf8_lossy(element).parse();
+        days.extend(day.map(|day| (place, day)));
+    }
+    days
+}
+
+/// What the length of a year's February goes by.
+fn kind(year: u32) -> &'static str {
+    match (year, year % 400, year % 100, year % 4) {
+        (0, ..) => "zero",
+        (_, 0, ..) => "four-hundred",
+        (_, _, 0, _) => "hundred",
+        (.., 0) => "leap",
+        _ => "common",
+    }
+}
+
+#[test]
+fn days_around_the_ends_of_months_stand_in_each_place() {
+    let month_ends = |&index: &u64| Family::of(SEED, index) == Family::MonthEnds;
+    let (mut cases, mut answered, mut in_isa09) = (0, 0, 0);
+    let mut februaries: BTreeMap<_, u32> = BTreeMap::new();
+    let mut months: BTreeMap<_, u32> = BTreeMap::new();
+    for index in (0..200_000).filter(month_ends) {
+        let case = Case::make(SEED, index);
+        cases += 1;
+        answered += u32::from(case.answer().number() == 0);
+        in_isa09 += u32::from(&case.interchange[72..76] == b"0230");
+        for (place, date) in days(&case) {
+            let (year, month, day) = (date / 10_000, date / 100 % 100, date % 100);
+            if month == 2 {
+                *februaries.entry((place, kind(year), day)).or_default() += 1;
+            } else {
+                *months.entry((place, month, day)).or_default() += 1;
+            }
+        }
+    }
+    for place in ["caller", "GS04", "B103"] {
+        for kind in ["common", "leap", "hundred", "four-hundred", "zero"] {
+            for day in 28..=30 {
+                let count = februaries.get(&(place, kind, day)).copied();
+                assert!(count >= Some(10), "{place} {kind} {day}: {count:?}");
+            }
+        }
+        for month in [1, 3, 4, 5, 6, 7, 8, 9, 10, 11, 12] {
+            for day in 30..=31 {
+                let count = months.get(&(place, month, day)).copied();
+                assert!(count >= Some(10), "{place} {month} {day}: {count:?}");
+            }
+        }
+    }
+    assert!(in_isa09 >= 20, "{in_isa09}");
+    assert!(answered * 4 > cases * 3, "{answered} of {cases}");
 }
 
 #[test]

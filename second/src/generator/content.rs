@@ -97,14 +97,6 @@ pub fn invalid_byte(prng: &mut Prng, delimiters: &Delimiters) -> u8 {
     }
 }
 
-/// A date by rule DT.
-pub fn date(prng: &mut Prng) -> u32 {
-    let year = *prng.pick(&[0, 1999, 2024, 2025, 9999]);
-    let month = *prng.pick(&[1, 2, 7, 9, 10, 12]);
-    let day = *prng.pick(&[1, 9, 15, 28, 30, 31]);
-    year * 10_000 + month * 100 + day
-}
-
 /// A time of hours and minutes.
 pub fn time(prng: &mut Prng) -> u32 {
     let hours = *prng.pick(&[0, 1, 9, 10, 19, 23]);

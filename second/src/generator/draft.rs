@@ -1,6 +1,7 @@
 //! An interchange still in parts, which can be damaged part by part.
 
 use super::content;
+use super::days;
 use super::prng::Prng;
 use crate::delimiters::Delimiters;
 
@@ -56,7 +57,7 @@ impl Draft {
                 vec![b"GE".to_vec(), b"0".to_vec(), group_control],
                 segment(&["IEA", iea_count], [interchange_control]),
             ],
-            date: content::date(prng),
+            date: days::day(prng),
             time: content::time(prng),
             control: caller_control(prng),
         }
@@ -172,7 +173,7 @@ fn gs(prng: &mut Prng, delimiters: &Delimiters, edition: Edition, control: &[u8]
     };
     let parties = [text_between(2, 15), text_between(2, 15)];
     let agency = text_between(1, 2);
-    let date = format!("{:08}", content::date(prng)).into_bytes();
+    let date = days::written(days::day(prng));
     let time = content::long_time(prng);
     let [sender, receiver] = parties;
     let rest = [
@@ -221,7 +222,7 @@ pub fn clean_b1(prng: &mut Prng, delimiters: &Delimiters) -> DraftSegment {
     let length = prng.between(2, 4);
     let carrier = content::text(prng, delimiters, length);
     let shipment = text_up_to(prng, delimiters, 30);
-    let date = format!("{:08}", content::date(prng)).into_bytes();
+    let date = days::written(days::day(prng));
     let action = prng.pick(&[b"A", b"D"]).to_vec();
     let mut b1 = segment(&["B1"], [carrier, shipment, date, action]);
     leave_out_some(prng, &mut b1, &[2, 3, 4]);

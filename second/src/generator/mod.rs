@@ -7,6 +7,7 @@ mod byte_damage;
 mod content;
 mod control_numbers;
 pub mod coverage;
+mod days;
 mod draft;
 mod first_line;
 mod group_damage;
@@ -26,6 +27,8 @@ use prng::Prng;
 pub enum Family {
     Clean,
     DamagedSets,
+    /// With days around the ends of months, and such as are none.
+    MonthEnds,
     DamagedGroup,
     Soup,
     /// Made for one refusal number.
@@ -114,7 +117,8 @@ pub fn standard_input(seed: u64, index: u64) -> Vec<u8> {
 fn pick_family(prng: &mut Prng) -> Family {
     match prng.below(1000) {
         0..80 => Family::Clean,
-        80..380 => Family::DamagedSets,
+        80..340 => Family::DamagedSets,
+        340..380 => Family::MonthEnds,
         380..500 => Family::DamagedGroup,
         500..640 => Family::Soup,
         640..730 => Family::Refusal(prng.between(1, 14) as u8),
@@ -137,6 +141,7 @@ fn make_in_family(prng: &mut Prng, family: Family) -> Case {
     match family {
         Family::Clean => as_drafted(family, &Draft::clean(prng)),
         Family::DamagedSets => as_drafted(family, &damaged_sets(prng)),
+        Family::MonthEnds => as_drafted(family, &month_ends(prng)),
         Family::DamagedGroup => as_drafted(family, &damaged_group(prng)),
         Family::Soup => as_drafted(family, &soup::soup(prng)),
         Family::Refusal(number) => refused(prng, family, &[number]),
@@ -181,6 +186,16 @@ fn case_of(family: Family, draft: &Draft, interchange: Vec<u8>) -> Case {
 fn damaged_sets(prng: &mut Prng) -> Draft {
     let mut draft = Draft::clean(prng);
     set_damage::damage_sets(prng, &mut draft);
+    draft
+}
+
+fn month_ends(prng: &mut Prng) -> Draft {
+    let mut draft = if prng.percent(50) {
+        Draft::clean(prng)
+    } else {
+        damaged_sets(prng)
+    };
+    days::put_near_month_ends(prng, &mut draft);
     draft
 }
 

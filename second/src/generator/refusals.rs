@@ -46,6 +46,8 @@ fn spoil_caller_numbers(prng: &mut Prng, draft: &mut Draft) {
                 20240132,
                 20240001,
                 20241301,
+                20241428,
+                20249928,
                 99991232,
                 99999999,
                 100000101,
@@ -196,7 +198,8 @@ fn spoil_gs(prng: &mut Prng, draft: &mut Draft) {
         4 => set_element(gs, 3, *prng.pick(&["", "A", "ABCDEFGHIJKLMNOP"])),
         5 => {
             let bad = [
-                "", "240315", "20240015", "20241315", "20240300", "20240332", "2024031A",
+                "", "240315", "20240015", "20241315", "20241428", "20249928", "20240300",
+                "20240332", "2024031A",
             ];
             set_element(gs, 4, *prng.pick(&bad));
         }

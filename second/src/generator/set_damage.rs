@@ -2,6 +2,7 @@
 
 use super::content;
 use super::control_numbers;
+use super::days;
 use super::draft::{clean_b1, clean_k1, clean_l11, segment, set_element, Draft, DraftSegment};
 use super::prng::Prng;
 use crate::delimiters::Delimiters;
@@ -9,8 +10,9 @@ use crate::delimiters::Delimiters;
 /// Lengths on both sides of the limits of the tables.
 const LENGTHS: [usize; 16] = [1, 2, 3, 4, 5, 7, 8, 9, 10, 11, 30, 31, 35, 36, 80, 81];
 
-const BAD_DATES: [&str; 7] = [
-    "20240100", "20240132", "20240001", "20241301", "2024010A", "        ", "2024-1-1",
+const BAD_DATES: [&str; 9] = [
+    "20240100", "20240132", "20240001", "20241301", "20241428", "20249928", "2024010A", "        ",
+    "2024-1-1",
 ];
 
 const STRANGE_IDS: [&str; 12] = [
@@ -197,6 +199,7 @@ fn damage_element(prng: &mut Prng, draft: &mut Draft) {
     let element = &mut segment[place];
     match (id.as_slice(), place) {
         (b"B1", 3) if prng.percent(50) => *element = prng.pick(&BAD_DATES).as_bytes().to_vec(),
+        (b"B1", 3) if prng.percent(50) => *element = days::written(days::near_month_end(prng)),
         (b"B1", 4) if prng.percent(60) => *element = vec![*prng.pick(b"BCERQ@ad0 ")],
         _ => damage_bytes_of_element(prng, &delimiters, element),
     }
