@@ -11,7 +11,7 @@ use rules::Call;
 fn is_date(date: u32) -> bool
     ensures { λ r. ⌜ r ≡ (leb date 99991231 && isDay date) ⌝ }
 {
-    date <= 99991231 && text::is_day(date)
+    date <= 99991231 && dates::is_day(date)
 }
 
 fn is_time(time: u32) -> bool

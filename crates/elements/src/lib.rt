@@ -20,7 +20,7 @@ use rules::Relation;
 fn date_code(e: &[u8]) -> u8
     ensures { λ r. ⌜ r ≡ first ((not (isDate (now (e .entry))) ⇒ 8) ∷ []) ⌝ }
 {
-    if text::is_date(e) { 0 } else { 8 }
+    if dates::is_date(e) { 0 } else { 8 }
 }
 
 fn time_code(e: &[u8]) -> u8

@@ -26,7 +26,7 @@ pub fn header_refusal(gs: &[u8], d: Delimiters) -> u8
     if !text::is_text(segments::field(gs, d.element, 3), 2, 15, d) {
         return 9;
     }
-    if !text::is_date(segments::field(gs, d.element, 4)) {
+    if !dates::is_date(segments::field(gs, d.element, 4)) {
         return 9;
     }
     if !text::is_time(segments::field(gs, d.element, 5)) {

@@ -22,13 +22,12 @@ use Rattle.text.proofs.find_near.Reads as text-find-near
 use Rattle.text.proofs.find.Reads as text-find
 use Rattle.text.proofs.part.Reads as text-part
 use Rattle.text.proofs.same_bytes.Reads as text-same-bytes
+use Rattle.text.proofs.is_between.Reads as text-is-between
 use Rattle.text.proofs.all_digits.Reads as text-all-digits
 use Rattle.text.proofs.is_digits.Reads as text-is-digits
 use Rattle.text.proofs.value.Reads as text-value
 use Rattle.text.proofs.count_in.Reads as text-count-in
 use Rattle.text.proofs.declares.Reads as text-declares
-use Rattle.text.proofs.is_day.Reads as text-is-day
-use Rattle.text.proofs.is_date.Reads as text-is-date
 use Rattle.text.proofs.is_time.Reads as text-is-time
 use Rattle.text.proofs.find_invalid.Reads as text-find-invalid
 use Rattle.text.proofs.all_valid.Reads as text-all-valid
@@ -36,6 +35,8 @@ use Rattle.text.proofs.is_text.Reads as text-is-text
 use Rattle.text.proofs.is_name.Reads as text-is-name
 use Rattle.text.proofs.unsigned.Reads as text-unsigned
 use Rattle.text.proofs.is_valid.Reads as text-is-valid
+use Rattle.dates.proofs.is_day.Reads as dates-is-day
+use Rattle.dates.proofs.is_date.Reads as dates-is-date
 use Rattle.caller.proofs.call_refusal.Reads as caller-call-refusal
 use Rattle.isa.proofs.read_isa.Reads as isa-read-isa
 use Rattle.isa.proofs.end_refusal.Reads as isa-end-refusal
@@ -175,6 +176,9 @@ text-part-once = ((λ κs a. tt), λ κs a r₁ r₂ s₁ s₂ p q. p ∙ sym q)
 text-same-bytes-once : Determined text-same-bytes.Pre text-same-bytes.Post (λ κs r s. r)
 text-same-bytes-once = ((λ κs a. tt), λ κs a r₁ r₂ s₁ s₂ p q. p ∙ sym q)
 
+text-is-between-once : Determined text-is-between.Pre text-is-between.Post (λ κs r s. r)
+text-is-between-once = ((λ κs a. tt), λ κs a r₁ r₂ s₁ s₂ p q. p ∙ sym q)
+
 text-all-digits-once : Determined text-all-digits.Pre text-all-digits.Post (λ κs r s. r)
 text-all-digits-once = ((λ κs a. tt), λ κs a r₁ r₂ s₁ s₂ p q. p ∙ sym q)
 
@@ -189,12 +193,6 @@ text-count-in-once = ((λ κs a. tt), λ κs a r₁ r₂ s₁ s₂ p q. p ∙ sy
 
 text-declares-once : Determined text-declares.Pre text-declares.Post (λ κs r s. r)
 text-declares-once = ((λ κs a. tt), λ κs a r₁ r₂ s₁ s₂ p q. p ∙ sym q)
-
-text-is-day-once : Determined text-is-day.Pre text-is-day.Post (λ κs r s. r)
-text-is-day-once = ((λ κs a. tt), λ κs a r₁ r₂ s₁ s₂ p q. p ∙ sym q)
-
-text-is-date-once : Determined text-is-date.Pre text-is-date.Post (λ κs r s. r)
-text-is-date-once = ((λ κs a. tt), λ κs a r₁ r₂ s₁ s₂ p q. p ∙ sym q)
 
 text-is-time-once : Determined text-is-time.Pre text-is-time.Post (λ κs r s. r)
 text-is-time-once = ((λ κs a. tt), λ κs a r₁ r₂ s₁ s₂ p q. p ∙ sym q)
@@ -213,6 +211,13 @@ text-is-name-once = ((λ κs a. tt), λ κs a r₁ r₂ s₁ s₂ p q. p ∙ sym
 
 text-unsigned-once : Determined text-unsigned.Pre text-unsigned.Post (λ κs r s. now r)
 text-unsigned-once = ((λ κs a. tt), λ κs a r₁ r₂ s₁ s₂ p q. p ∙ sym q)
+
+-- dates
+dates-is-day-once : Determined dates-is-day.Pre dates-is-day.Post (λ κs r s. r)
+dates-is-day-once = ((λ κs a. tt), λ κs a r₁ r₂ s₁ s₂ p q. p ∙ sym q)
+
+dates-is-date-once : Determined dates-is-date.Pre dates-is-date.Post (λ κs r s. r)
+dates-is-date-once = ((λ κs a. tt), λ κs a r₁ r₂ s₁ s₂ p q. p ∙ sym q)
 
 -- caller
 caller-call-refusal-once : Determined caller-call-refusal.Pre caller-call-refusal.Post (λ κs r s. r)

@@ -1,4 +1,4 @@
-// Leaves on bytes: searching, comparing, digits and the numbers that they stand for, dates, times, valid bytes.
+// Leaves on bytes: searching, comparing, digits and the numbers that they stand for, times, valid bytes.
 ghost use mathlib.Core.Path.{_≡_};
 ghost use mathlib.Core.Bool.{_||_};
 ghost use Prim.Native.Nat.{_+_, _≤_, min};
@@ -6,7 +6,7 @@ ghost use lib.Dec.{eqb};
 ghost use lib.ListN.{length, take, drop};
 ghost use Rattle.rules.specs.Base.{between, isDigit, isUpper, isUpperOrDigit, same, all, any};
 ghost use Rattle.rules.specs.Cutting.{valid, text};
-ghost use Rattle.rules.specs.Numbers.{digits, countIn, declares, isDay, isDate, isTime};
+ghost use Rattle.rules.specs.Numbers.{digits, countIn, declares, isTime};
 ghost use Rattle.rules.specs.Elements as law;
 ghost use Rattle.text.specs.Text.{indexOf, nextWhere, part, invalid, upToTen, counted};
 use rules::Delimiters;
@@ -95,7 +95,7 @@ pub fn same_bytes(a: &[u8], b: &[u8]) -> bool
 }
 
 // n is one of lo to hi.
-fn is_between(n: usize, lo: usize, hi: usize) -> bool
+pub fn is_between(n: usize, lo: usize, hi: usize) -> bool
     ensures { λ r. ⌜ r ≡ between lo hi n ⌝ }
 {
     lo <= n && n <= hi
@@ -180,22 +180,6 @@ pub fn declares(s: &[u8], most: usize, n: u64) -> bool
         Count::Of(m) => n == m,
         Count::Nothing => false,
     }
-}
-
-// A day CCYYMMDD: month 01 to 12, day 01 to 31.
-pub fn is_day(n: u32) -> bool
-    ensures { λ r. ⌜ r ≡ isDay n ⌝ }
-{
-    let month = (n / 100 % 100) as usize;
-    let day = (n % 100) as usize;
-    is_between(month, 1, 12) && is_between(day, 1, 31)
-}
-
-// Rule DT: eight digits that are a day.
-pub fn is_date(s: &[u8]) -> bool
-    ensures { λ r. ⌜ r ≡ isDate (now (s .entry)) ⌝ }
-{
-    is_digits(s, 8, 8) && is_day(value(s) as u32)
 }
 
 // As many digits as a time may have: HHMM, HHMMSS, and one or two more.

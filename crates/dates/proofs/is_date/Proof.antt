@@ -1,12 +1,12 @@
--- `text::is_date` meets its contract.
+-- `dates::is_date` meets its contract.
 use mathlib.Core.Path.{ap, sym, _∙_}
 use native.Mathlib.Omega.{arith}
 use borrow.Author.Needs.{needs}
 use lib.Dec.{lit≤}
 use Rattle.rules.specs.Numbers as numbers
 use Rattle.text.proofs.Digits.{value-of, value-below}
-use Rattle.text.proofs.is_date.Statement.{statement}
-use Rattle.text.proofs.is_date.Tie as tie
+use Rattle.dates.proofs.is_date.Statement.{statement}
+use Rattle.dates.proofs.is_date.Tie as tie
 
 cast-is-day : tie.Need-cast-is-day
 cast-is-day c =

@@ -1,9 +1,9 @@
--- `text::is_day` meets its contract.
+-- `dates::is_day` meets its contract.
 use mathlib.Core.Path.{sym, _∙_}
 use borrow.Author.Needs.{needs}
 use Rattle.rules.specs.Numbers.{isDay}
-use Rattle.text.proofs.is_day.Statement.{statement}
-use Rattle.text.proofs.is_day.Tie as tie
+use Rattle.dates.proofs.is_day.Statement.{statement}
+use Rattle.dates.proofs.is_day.Tie as tie
 
 returns : tie.Need-returns
 unfolding isDay
