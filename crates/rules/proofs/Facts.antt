@@ -4,11 +4,9 @@ use mathlib.Core.Bool.{Bool, true, false, _&&_, false≢true}
 use mathlib.Core.List.{List, [], _∷_, _++_, map, append-nil, append-assoc}
 use mathlib.Core.Option.{Option}
 use Prim.Native.Nat.{ℕ, suc, _+_, _≤_}
-use native.Mathlib.Omega.{arith}
-use borrow.Author.Tests.{leb-true}
-use lib.Dec.{T, leb, eqb}
+use lib.Dec.{T, eqb}
 use lib.ListN.{length, length-append}
-use Rattle.rules.specs.Base.{Bytes, ascii, null, same, last, Rule, _⇒_, first, if_then_else_}
+use Rattle.rules.specs.Base.{Bytes, ascii, null, same, last, Rule, first, if_then_else_}
 use Rattle.rules.specs.Cutting.{field, delimiters, isa, segments}
 use Rattle.rules.specs.Numbers.{decimal}
 use Rattle.rules.specs.Sets.{Set, controlOf, SetReport, accepted}
@@ -20,7 +18,7 @@ use Rattle.rules.specs.Answers.{Allowed, outcome}
 use Rattle.rules.specs.declared.Call.{Call}
 use Rattle.rules.specs.declared.Answer.{Answer}
 use Rattle.rules.specs.declared.Delimiters.{Delimiters}
-use Rattle.rules.proofs.Logic.{and-left, and-right, last-snoc, orElse, numbered, first-append, both-left, both-right}
+use Rattle.rules.proofs.Logic.{last-snoc, orElse, numbered, first-append, both-left, both-right, first-low}
 
 -- 1. Two allowed outcomes coincide: the answer, and with it number and length, and every byte of the buffer.
 module _ (i lent : Bytes) (call : Call) (a₁ a₂ : Answer) (l₁ l₂ : Bytes)
@@ -70,19 +68,9 @@ segments-counted st02 g =
     rw (last-snoc [] (told st02 g) (seOut (length (told st02 g) + 1) st02), length-append (told st02 g) (seOut (length (told st02 g) + 1) st02 ∷ []))
 
 -- 5. A refusal number is at most 13.
-abbrev low : List Rule → Bool
-low [] = true
-low ((b ⇒ n) ∷ rs) = leb n 13 && low rs
-
-first-low : (rs : List Rule) → low rs ≡ true → first rs ≤ 13
-unfolding first
-first-low [] e = omega arith
-first-low ((true ⇒ n) ∷ rs) e = leb-true n 13 (and-left (leb n 13) (low rs) e)
-first-low ((false ⇒ n) ∷ rs) e = first-low rs (and-right (leb n 13) (low rs) e)
-
 pub refusal-low : (i : Bytes) (call : Call) → refusal i call ≤ 13
 unfolding refusal refusalRules callRules headRules endRules envelopeRules trailerRules groupRules headerRules answerRules setRules
-refusal-low i call = first-low (refusalRules i call) refl
+refusal-low i call = first-low 13 (refusalRules i call) refl
 
 -- 6. The refusal is that of the first block of rules that has one.
 unfoldable pub firstOf : List ℕ → ℕ

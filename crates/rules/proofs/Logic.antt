@@ -2,10 +2,11 @@
 use mathlib.Core.Path.{_≡_, refl, ap, subst⁻¹}
 use mathlib.Core.Bool.{Bool, true, false, _&&_, _||_, not, false≢true, true≢false}
 use mathlib.Core.List.{List, [], _∷_, _++_}
-use Prim.Native.Nat.{ℕ, zero, suc, _<_}
+use Prim.Native.Nat.{ℕ, zero, suc, _≤_, _<_}
 use native.Mathlib.Nat.{not-suc-le-zero, le-of-suc-le-suc}
-use borrow.Author.Tests.{eqb-true}
-use lib.Dec.{T, T-not, eqb}
+use native.Mathlib.Omega.{arith}
+use borrow.Author.Tests.{eqb-true, leb-true}
+use lib.Dec.{T, T-not, leb, eqb}
 use lib.ListN.{length, getD}
 use Rattle.rules.specs.Base.{Bytes, same, all, front, last, Rule, _⇒_, first}
 
@@ -139,3 +140,14 @@ silent [] t e = tt
 silent ((true ⇒ n) ∷ rs) t e =
     absurd (T-not (eqb n 0) (both-left (not (eqb n 0)) (numbered rs) t) (subst⁻¹ (λ (m : ℕ). T (eqb m 0)) e tt))
 silent ((false ⇒ n) ∷ rs) t e = (refl, silent rs (both-right (not (eqb n 0)) (numbered rs) t) e)
+
+-- no rule of the list gives more than `most`, and so not the first that applies
+abbrev pub low : ℕ → List Rule → Bool
+low most [] = true
+low most ((b ⇒ n) ∷ rs) = leb n most && low most rs
+
+pub first-low : (most : ℕ) (rs : List Rule) → low most rs ≡ true → first rs ≤ most
+unfolding first
+first-low most [] e = omega arith
+first-low most ((true ⇒ n) ∷ rs) e = leb-true n most (and-left (leb n most) (low most rs) e)
+first-low most ((false ⇒ n) ∷ rs) e = first-low most rs (and-right (leb n most) (low most rs) e)
