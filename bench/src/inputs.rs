@@ -40,6 +40,15 @@ fn clean_set(number: usize) -> String {
     format!("ST*990*{number:04}~B1*ABCD*L{number:04}*20240315*A~L11*4711*CN~SE*4*{number:04}~")
 }
 
+/// Clean sets of so many bytes together: the last one's B102 fills them up.
+fn clean_group_of(bytes: usize) -> String {
+    let sets = bytes / clean_set(1).len();
+    let mut group: String = (1..=sets).map(clean_set).collect();
+    let (before, after) = group.rsplit_once("*2024").expect("each set has a date");
+    group = format!("{before}{}*2024{after}", "X".repeat(bytes - group.len()));
+    interchange(sets, &group)
+}
+
 fn faulty_set(number: usize) -> String {
     format!("ST*990*{number:04}~B1*ABCDE*L101*20241315*Q~L11**CN~SE*3*{number:04}~")
 }
@@ -85,10 +94,27 @@ fn one_set(body: &str) -> String {
     interchange(1, &format!("ST*990*0001~{body}SE*3*0001~"))
 }
 
+/// So many sets of a kind: `clean`, `faulty`, or `odd` in their last segment.
+pub fn sets_of(kind: &str, sets: usize) -> Input {
+    let set = match kind {
+        "clean" => clean_set,
+        "faulty" => faulty_set,
+        "odd" => odd_set,
+        _ => panic!("no kind of sets: {kind}"),
+    };
+    input(kind, group(sets, set))
+}
+
 pub fn answered() -> Vec<Input> {
     let mut inputs: Vec<Input> = [10, 100, 450, 900]
         .map(|sets| input(format!("{sets} clean sets"), group(sets, clean_set)))
         .into();
+    inputs.extend([4096, 4097].map(|bytes| {
+        input(
+            format!("clean sets of {bytes} bytes"),
+            clean_group_of(bytes),
+        )
+    }));
     inputs.extend([
         input("900 faulty sets", group(900, faulty_set)),
         input(

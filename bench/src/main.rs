@@ -74,8 +74,18 @@ fn row(input: &Input, buffer: &mut [u8]) {
     );
 }
 
+/// One call of the library, for a tool that counts.
+fn once(kind: &str, sets: &str, buffer: &mut [u8]) {
+    let input = inputs::sets_of(kind, sets.parse().expect("a number of sets"));
+    black_box(library(&input, buffer));
+}
+
 fn main() {
     let mut buffer = vec![0; inputs::ROOM];
+    let words: Vec<String> = std::env::args().skip(1).collect();
+    if let [kind, sets] = words.as_slice() {
+        return once(kind, sets, &mut buffer);
+    }
     println!("| Interchange | bytes | library, ns a byte | second, ns a byte | ratio |");
     println!("|---|---|---|---|---|");
     for input in inputs::answered().iter().chain(&inputs::refused()) {
