@@ -18,7 +18,8 @@ extern "C" {
  * Answers `interchange`, from the first byte of ISA to the terminator of IEA,
  * with a functional acknowledgment in the buffer `response`.
  *
- *   date     of the response, as the number CCYYMMDD: 20240315
+ *   date     of the response, as the number CCYYMMDD: 20240315; a day of the
+ *            Gregorian calendar
  *   time     of the response, as the number HHMM: 930 is half past nine
  *   control  number of the response, 1 to 999999999
  *
@@ -31,7 +32,7 @@ extern "C" {
  *   14       the response does not fit. *length is the length that it needs
  *            and the buffer is as lent: call again with a longer one.
  *
- *    1  date, time or control number is out of range
+ *    1  the date is no day, or time or control number is out of range
  *    2  the interchange has under 106 or over 65536 bytes
  *    3  it does not start with ISA and its separators
  *    4  two delimiters are equal, or one is a letter, a digit or a space

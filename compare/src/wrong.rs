@@ -8,6 +8,8 @@ use crate::segments::{cut, joined, number, Segments};
 use second::generator::{Case, Family};
 use std::collections::hash_map::{Entry, HashMap};
 
+mod calendars;
+
 /// What the gate compares: `compare cases --seed 1 --count 200000`.
 const SEED: u64 = 1;
 const COUNT: u64 = 200_000;
@@ -56,14 +58,18 @@ impl<S: Fn(&mut Segments) -> bool, T: Fn(&[Vec<u8>], &mut Segments)> Wrong<S, T>
         Some(joined(&sent, separator, terminator))
     }
 
-    /// In how many of the gate's cases of a family it shows, up to `SEVERAL`.
     fn shown(&self, family: Family) -> usize {
-        (0..COUNT)
-            .filter(|&index| Family::of(SEED, index) == family)
-            .filter(|&index| self.differs(&Case::make(SEED, index)))
-            .take(SEVERAL)
-            .count()
+        shown(family, |case| self.differs(case))
     }
+}
+
+/// How many of the gate's cases of a family differ, up to `SEVERAL`.
+fn shown(family: Family, differs: impl Fn(&Case) -> bool) -> usize {
+    (0..COUNT)
+        .filter(|&index| Family::of(SEED, index) == family)
+        .filter(|&index| differs(&Case::make(SEED, index)))
+        .take(SEVERAL)
+        .count()
 }
 
 /// The response in a buffer without an end, or nothing for a refusal.

@@ -13,8 +13,8 @@ extern "C" {
     ) -> u32;
 }
 
-/// The caller's numbers: the date CCYYMMDD and the time HHMM of the response,
-/// and its control number.
+/// The caller's numbers: the date CCYYMMDD, a day of the Gregorian calendar,
+/// and the time HHMM of the response, and its control number.
 #[derive(Debug, Clone, Copy)]
 pub struct Numbers {
     pub date: u32,

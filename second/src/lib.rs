@@ -1,7 +1,8 @@
 //! Answers one X12 interchange holding one functional group of transaction
 //! set 990 with a functional acknowledgment (997) or a refusal number.
 //!
-//! Written from document 01 alone, to be compared with the proved program.
+//! Written from document 01 and the change requests alone, to be compared with
+//! the proved program.
 
 pub mod caller;
 pub mod delimiters;

@@ -15,12 +15,35 @@ pub fn all_digits(bytes: &[u8]) -> bool {
     bytes.iter().all(u8::is_ascii_digit)
 }
 
-/// Rule DT over the eight digits of CCYYMMDD; any year passes.
+/// Rule DT: the eight digits of CCYYMMDD are a day of the Gregorian calendar.
 pub fn is_date(bytes: &[u8]) -> bool {
-    bytes.len() == 8
-        && all_digits(bytes)
-        && (1..=12).contains(&two_digits(bytes, 4))
-        && (1..=31).contains(&two_digits(bytes, 6))
+    if bytes.len() != 8 || !all_digits(bytes) {
+        return false;
+    }
+    let year = u16::from(two_digits(bytes, 0)) * 100 + u16::from(two_digits(bytes, 2));
+    let month = two_digits(bytes, 4);
+    let day = two_digits(bytes, 6);
+    (1..=days_in_month(year, month)).contains(&day)
+}
+
+/// 0 for a number that is no month.
+fn days_in_month(year: u16, month: u8) -> u8 {
+    match month {
+        1 | 3 | 5 | 7 | 8 | 10 | 12 => 31,
+        4 | 6 | 9 | 11 => 30,
+        2 if is_leap_year(year) => 29,
+        2 => 28,
+        _ => 0,
+    }
+}
+
+/// Divisible by 4, and not by 100 unless by 400; year 0 is divisible by each.
+fn is_leap_year(year: u16) -> bool {
+    match (year % 400, year % 100, year % 4) {
+        (0, _, _) => true,
+        (_, 0, _) => false,
+        (_, _, rest) => rest == 0,
+    }
 }
 
 /// Rule TM: HHMM, HHMMSS, HHMMSSD or HHMMSSDD; decimals are free.
@@ -58,8 +81,8 @@ mod tests {
     }
 
     #[test]
-    fn dates_have_months_to_12_and_days_to_31() {
-        for good in ["20241231", "20240101", "00000101", "20240231", "99991231"] {
+    fn dates_have_eight_digits_a_month_and_a_day() {
+        for good in ["20241231", "20240101", "00000101", "99991231"] {
             assert!(is_date(good.as_bytes()), "{good}");
         }
         for bad in [
@@ -67,6 +90,7 @@ mod tests {
             "20240132",
             "20240001",
             "20241301",
+            "20249901",
             "2024010A",
             "X0240101",
             "240101",
@@ -74,6 +98,29 @@ mod tests {
             "",
         ] {
             assert!(!is_date(bad.as_bytes()), "{bad}");
+        }
+    }
+
+    #[test]
+    fn months_have_their_lengths() {
+        let lengths = [31, 28, 31, 30, 31, 30, 31, 31, 30, 31, 30, 31];
+        for (month, length) in (1..).zip(lengths) {
+            assert_eq!(days_in_month(2023, month), length, "{month}");
+        }
+        for no_month in [0, 13, 99] {
+            assert_eq!(days_in_month(2023, no_month), 0, "{no_month}");
+        }
+    }
+
+    #[test]
+    fn leap_years_are_divisible_by_4_and_not_by_100_unless_by_400() {
+        for leap in [0, 4, 96, 104, 400, 1600, 1904, 1996, 2000, 2024, 9996] {
+            assert!(is_leap_year(leap), "{leap}");
+        }
+        for common in [
+            1, 2, 3, 99, 100, 200, 300, 1900, 2023, 2026, 2100, 9900, 9999,
+        ] {
+            assert!(!is_leap_year(common), "{common}");
         }
     }
 

@@ -47,7 +47,7 @@ fn the_clean_interchange_is_answered() {
 
 #[test]
 fn refusal_1_date() {
-    for good in [20240315, 99991231, 101, 20240231, 1231] {
+    for good in [20240315, 99991231, 101, 20240229, 1231] {
         assert_eq!(number_for(good, TIME, CONTROL), 0, "{good}");
     }
     let bad = [
@@ -257,7 +257,7 @@ fn refusal_9_elements_of_gs() {
         (1, &["GF", "SM", "IM", "00", "G7"]),
         (2, &["AB", "ABCDEFGHIJKLMNO", "  ", "a.b"]),
         (3, &["AB", "ABCDEFGHIJKLMNO", "  ", "a.b"]),
-        (4, &["20241231", "00000101", "20240231"]),
+        (4, &["20241231", "00000101", "20240229"]),
         (5, &["0000", "2359", "235959", "2359599", "23595999"]),
         (6, &["0", "1", "000000042", "999999999"]),
         (7, &["X", "T", "XX", " "]),

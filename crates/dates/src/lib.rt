@@ -1,14 +1,37 @@
-// Rule DT: whether a number or eight digits are a day.
+// Rule DT: whether a number or eight digits are a day of the calendar.
 ghost use mathlib.Core.Path.{_≡_};
-ghost use Rattle.rules.specs.Numbers.{isDay, isDate};
+ghost use Prim.Native.Nat.{_≤_};
+ghost use Rattle.rules.specs.Numbers.{leap, monthLength, isDay, isDate};
 
-// A day CCYYMMDD: month 01 to 12, day 01 to 31.
+// The days of the months of a common year.
+const MONTH_LENGTHS: [u8; 12] = [31, 28, 31, 30, 31, 30, 31, 31, 30, 31, 30, 31];
+
+// A year with a 29 February.
+fn is_leap(year: u32) -> bool
+    ensures { λ r. ⌜ r ≡ leap year ⌝ }
+{
+    year % 4 == 0 && (year % 100 != 0 || year % 400 == 0)
+}
+
+// The days of one of the months 1 to 12.
+fn month_length(year: u32, month: usize) -> u8
+    requires { ⌜ (1 ≤ month) × (month ≤ 12) ⌝ }
+    ensures { λ r. ⌜ r ≡ monthLength year month ⌝ }
+{
+    if month == 2 && is_leap(year) {
+        return 29;
+    }
+    MONTH_LENGTHS[month - 1]
+}
+
+// The number CCYYMMDD is a day.
 pub fn is_day(n: u32) -> bool
     ensures { λ r. ⌜ r ≡ isDay n ⌝ }
 {
     let month = (n / 100 % 100) as usize;
     let day = (n % 100) as usize;
-    text::is_between(month, 1, 12) && text::is_between(day, 1, 31)
+    text::is_between(month, 1, 12)
+        && text::is_between(day, 1, month_length(n / 10000, month) as usize)
 }
 
 // Rule DT: eight digits that are a day.

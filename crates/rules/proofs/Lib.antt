@@ -7,6 +7,7 @@ pub mod Facts
 pub mod Lengths
 pub mod Bound
 pub mod Open
+pub mod Calendar
 pub mod Exchange
 pub mod Marked
 pub mod Tempting

@@ -1,11 +1,11 @@
 -- Digits and numbers, the declared counts, and the rules DT and TM.
 use Prim.Native.Nat.{ℕ, zero, suc, _+_, _-_, _*_, _/_, _%_}
-use mathlib.Core.Bool.{Bool, true, false, _&&_, _||_}
+use mathlib.Core.Bool.{Bool, true, false, _&&_, _||_, not}
 use mathlib.Core.List.{List, [], _∷_, _++_}
 use mathlib.Core.Option.{Option, none, some}
 use lib.Dec.{leb, ltb, eqb}
 use lib.ListN.{length, take, drop}
-use Rattle.rules.specs.Base.{Bytes, if_then_else_, between, isDigit, all, holds}
+use Rattle.rules.specs.Base.{Bytes, Rule, _⇒_, first, if_then_else_, between, isDigit, all, any, holds}
 
 -- lo to hi digits and nothing else
 unfoldable pub digits : ℕ → ℕ → Bytes → Bool
@@ -41,9 +41,27 @@ digitsOf (suc f) n = let left = digitsOf f (n / 10) in if ltb n 10 then (48 + n)
 unfoldable pub decimal : ℕ → Bytes
 decimal = digitsOf 19
 
--- CCYYMMDD as a number: month 01 to 12, day 01 to 31
+-- a year with a 29 February: divisible by 4, and not by 100 unless by 400
+unfoldable pub leap : ℕ → Bool
+leap year = eqb (year % 4) 0 && (not (eqb (year % 100) 0) || eqb (year % 400) 0)
+
+-- how many days a month of a year has; what is no month has none
+unfoldable pub monthLength : ℕ → ℕ → ℕ
+monthLength year month =
+    first (
+    (any (eqb month) (1 ∷ 3 ∷ 5 ∷ 7 ∷ 8 ∷ 10 ∷ 12 ∷ []) ⇒ 31) ∷
+    (any (eqb month) (4 ∷ 6 ∷ 9 ∷ 11 ∷ []) ⇒ 30) ∷
+    (eqb month 2 && leap year ⇒ 29) ∷
+    (eqb month 2 ⇒ 28) ∷
+    [])
+
+-- the number CCYYMMDD is a day of the Gregorian calendar: month 1 to 12, day 1 to the length of the month
 unfoldable pub isDay : ℕ → Bool
-isDay n = between 1 12 (n / 100 % 100) && between 1 31 (n % 100)
+isDay n =
+    let year = n / 10000 in
+    let month = n / 100 % 100 in
+    let day = n % 100 in
+    between 1 12 month && between 1 (monthLength year month) day
 
 -- rule DT: eight digits that are a day
 unfoldable pub isDate : Bytes → Bool

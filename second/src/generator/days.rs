@@ -56,6 +56,12 @@ pub fn near_month_end(prng: &mut Prng) -> u32 {
     month.day(*prng.pick(&[last - 1, last, last, next, next, next + 1]))
 }
 
+/// The number after the last day of a month, which is no day.
+pub fn past_month_end(prng: &mut Prng) -> u32 {
+    let month = Month::draw(prng);
+    month.day(month.days + 1)
+}
+
 /// CCYYMMDD with its eight digits.
 pub fn written(day: u32) -> Vec<u8> {
     format!("{day:08}").into_bytes()

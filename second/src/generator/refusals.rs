@@ -4,6 +4,7 @@
 //! so that two can be brought about at once and the lower number be given.
 
 use super::content;
+use super::days;
 use super::draft::{segment, set_element, Draft};
 use super::prng::Prng;
 use crate::isa::{ISA_LENGTH, LONGEST_INTERCHANGE, SEPARATORS};
@@ -36,7 +37,7 @@ pub fn provoke_in_bytes(prng: &mut Prng, draft: &Draft, bytes: &mut Vec<u8>, num
 }
 
 fn spoil_caller_numbers(prng: &mut Prng, draft: &mut Draft) {
-    match prng.below(3) {
+    match prng.below(4) {
         0 => {
             let bad = [
                 0,
@@ -56,7 +57,8 @@ fn spoil_caller_numbers(prng: &mut Prng, draft: &mut Draft) {
             ];
             draft.date = *prng.pick(&bad);
         }
-        1 => draft.time = *prng.pick(&[60, 1260, 2360, 2400, 9999, 10000, 100_000, u32::MAX]),
+        1 => draft.date = days::past_month_end(prng),
+        2 => draft.time = *prng.pick(&[60, 1260, 2360, 2400, 9999, 10000, 100_000, u32::MAX]),
         _ => draft.control = *prng.pick(&[0, 1_000_000_000, u32::MAX]),
     }
 }
@@ -190,7 +192,7 @@ fn spoil_iea(prng: &mut Prng, draft: &mut Draft) {
 fn spoil_gs(prng: &mut Prng, draft: &mut Draft) {
     let delimiters = draft.delimiters;
     let gs = &mut draft.segments[0];
-    match prng.below(11) {
+    match prng.below(12) {
         0 => gs.truncate(prng.between(1, 8)),
         1 => gs.push(prng.pick(&["", "X"]).as_bytes().to_vec()),
         2 => set_element(gs, 1, *prng.pick(&["", "G", "GFF", "gf", "G ", "G-"])),
@@ -219,6 +221,7 @@ fn spoil_gs(prng: &mut Prng, draft: &mut Draft) {
         7 => set_element(gs, 6, *prng.pick(&["", "1234567890", "-1", "4 2", "A"])),
         8 => set_element(gs, 7, *prng.pick(&["", "XXX"])),
         9 => set_element(gs, 8, *prng.pick(&["", "006010ABCDEFG"])),
+        10 => set_element(gs, 4, days::written(days::past_month_end(prng))),
         _ => {
             let place = prng.between(1, gs.len() - 1);
             let at = prng.below(gs[place].len() + 1);
