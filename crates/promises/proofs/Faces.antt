@@ -24,6 +24,7 @@ use Rattle.promises.proofs.Demands.{calls}
 use Rattle.promises.proofs.Spoiling.{callOf}
 use Rattle.promises.proofs.Accepted as accepted
 use Rattle.promises.proofs.Accepted.{Tells, Counts, tells}
+use Rattle.promises.proofs.Dated.{Dated, answered-dated}
 use Rattle.acknowledgment.proofs.acknowledge.Reads as acknowledge
 use Rattle.acknowledgment.proofs.x12_acknowledge.Reads as x12-acknowledge
 
@@ -52,6 +53,9 @@ pub record Promised (i lent : Bytes) (call : Call) (o : Outcome) : Type 0 where
   pub sets : o .number ≡ 0 → (k : ℕ) (x : Set) (y : SetReport) → k < length (setsIn i) → Tells i lent call k x y (o .buffer)
   -- an answer says in AK903 how many ST segments the group has: shut out is AK903 from thin air
   pub counts : o .number ≡ 0 → Counts i lent call (o .buffer)
+  -- an answer is given only where the caller's date, GS04, and the B103 of accepted sets are days of the calendar: shut out is a program that takes
+  -- 20230230
+  pub dated : o .number ≡ 0 → Dated i call
   -- P1 to P12: row k of their table is answered, and its whole response stands at the start of the buffer: shut out is a program that draws one
   -- of these lines elsewhere
   pub marked : (m : Marked) (k : ℕ) → k < length marked → i ≡ receivedFor (getD marked k m) → call ≡ sampleCall
@@ -91,6 +95,7 @@ module _ (i lent : Bytes) (call : Call) (o : Outcome) (p : o ≡ called i lent c
     unused = λ e. respond-spared i (groupIn i) call;
     sets = λ e. tells i lent call (o .buffer) (left-is e);
     counts = λ e. accepted.counts i lent call (o .buffer) (left-is e);
+    dated = λ e. answered-dated i call (wrote e .0);
     marked = λ m k h e f room. onto e f ∙ shown.marked-shown m k h lent room;
     groups = λ g k h e f room. onto e f ∙ shown.groups-shown g k h lent room;
     exchange = λ e f room. onto e f ∙ shown.exchange-shown lent room;

@@ -4,6 +4,7 @@ pub mod Shown
 pub mod Demands
 pub mod Spoiling
 pub mod Accepted
+pub mod Dated
 pub mod Faces
 pub mod Printed
 pub mod Determined

@@ -183,17 +183,21 @@ reports-named d table controls (s ∷ ss) e =
     let st02 = text-filled d (controlOf s) (and-right (digits 3 3 (field (s .header) 1)) (text d 4 9 (controlOf s)) (all-head good s ss e)) in
     rw (st02, notes-coded d (table s) s) (reports-named d table (controlOf s ∷ controls) ss (all-tail good s ss e))
 
-gs06-filled : (d : Delimiters) (gs : Segment) → goodGS d gs ≡ true → isFilled (field gs 6) ≡ true
+-- GS04 and GS06 of a GS that breaks no rule
+pub header-parts : (d : Delimiters) (gs : Segment) → goodGS d gs ≡ true → (isDate (field gs 4) ≡ true) × (digits 1 9 (field gs 6) ≡ true)
 unfolding goodGS
-gs06-filled d gs e =
+header-parts d gs e =
     let before =
     eqb (length gs) 9
     && eqb (length (field gs 1)) 2 && all isUpperOrDigit (field gs 1)
-    && text d 2 15 (field gs 2) && text d 2 15 (field gs 3)
-    && isDate (field gs 4) && isTime (field gs 5) in
+    && text d 2 15 (field gs 2) && text d 2 15 (field gs 3) in
+    let gs04 = isDate (field gs 4) in
+    let gs05 = isTime (field gs 5) in
     let gs06 = digits 1 9 (field gs 6) in
     let gs07 = text d 1 2 (field gs 7) in
-    digits-filled (field gs 6) (and-right before gs06 (and-left (before && gs06) gs07 (and-left (before && gs06 && gs07) (text d 1 12 (field gs 8)) e)))
+    let up-to = before && gs04 && gs05 && gs06 in
+    let e6 = and-left up-to gs07 (and-left (up-to && gs07) (text d 1 12 (field gs 8)) e) in
+    (and-right before gs04 (and-left (before && gs04) gs05 (and-left (before && gs04 && gs05) gs06 e6)), and-right (before && gs04 && gs05) gs06 e6)
 
 -- A refusal that lets an empty GS06 or ST02 pass is shut out.
 pub answered-filled : (i : Bytes) (call : Call) → refusal i call ≡ 0 → Filled (reportIn i)
@@ -203,7 +207,7 @@ answered-filled i call e =
     let g = groupIn i in
     let r = silent (refusalRules i call) tt e in
     record {
-      gs06 = gs06-filled d (g .header) (not-false (goodGS d (g .header)) (r .1 .1 .1 .1 .1 .1 .1 .1 .1 .1 .0));
+      gs06 = digits-filled (field (g .header) 6) (header-parts d (g .header) (not-false (goodGS d (g .header)) (r .1 .1 .1 .1 .1 .1 .1 .1 .1 .1 .0)) .1);
       sets =
           reports-named d (tableIn (g .header)) [] (sets g)
           (not-false (all (λ s. goodST d (s .header)) (sets g)) (r .1 .1 .1 .1 .1 .1 .1 .1 .1 .1 .1 .1 .1 .1 .0));

@@ -21,7 +21,7 @@ use Rattle.rules.proofs.Logic.{or-left, or-right, same→eq, Silent}
 use Rattle.rules.proofs.Lengths.{every-short}
 
 -- 1. Rules: no number is given exactly when no rule applies.
-none-given : (rs : List Rule) → null (every rs) ≡ true ↔ Silent rs
+pub none-given : (rs : List Rule) → null (every rs) ≡ true ↔ Silent rs
 unfolding every
 none-given rs = (there rs, back rs)
   where
