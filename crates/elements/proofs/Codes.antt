@@ -1,11 +1,11 @@
--- The code of an element's value, test by test, and the values of valid bytes that have none.
+-- The code of an element's value, test by test.
 use mathlib.Core.Path.{_≡_, refl, sym}
 use mathlib.Core.Bool.{Bool, true, false, _&&_, not, true≢false}
 use mathlib.Core.List.{[], _∷_}
 use Prim.Native.Nat.{ℕ}
 use native.Mathlib.Omega.{arith}
 use borrow.Author.Tests.{leb-true, le-ltb}
-use lib.Dec.{eqb, ltb, leb}
+use lib.Dec.{ltb, leb}
 use lib.ListN.{length}
 use Rattle.rules.specs.Base.{Bytes, null, all, between, _⇒_, first, if_then_else_}
 use Rattle.rules.specs.Cutting.{valid}
@@ -18,7 +18,7 @@ use Rattle.rules.specs.declared.Kind.the-variants.{AN, ID, N0, DT, TM}
 use Rattle.rules.proofs.Logic.{and-left, and-right}
 use Rattle.tables.specs.Reading.{elementRow}
 use Rattle.tables.specs.declared.ElementRow.{ElementRow}
-use Rattle.elements.specs.Values.{isText, unlisted, spelledAs, ruleCode, valueCode, takes, takesLength}
+use Rattle.elements.specs.Values.{isText, unlisted, spelledAs, ruleCode, valueCode, takesLength, codeBy}
 
 filled : (e : Bytes) → (length e ≡ 0 → ⊥) → null e ≡ false
 filled [] h = absurd (h refl)
@@ -40,11 +40,6 @@ in-order true true false true u x y = refl
 in-order true true false false true x y = refl
 in-order true true false false false x y = refl
 
-pub mandatory-code : (m : Bool) → eqb (first ((m ⇒ 1) ∷ [])) 0 ≡ not m
-unfolding first
-mandatory-code true = refl
-mandatory-code false = refl
-
 -- the rule of a date and of a time
 module _ (e : Bytes) where
   pub date-rule : first ((not (isDate e) ⇒ 8) ∷ []) ≡ ruleCode DT e
@@ -55,37 +50,25 @@ module _ (e : Bytes) where
   unfolding first
   time-rule = refl
 
-module _ (d : Delimiters) (r : Row) (e : Bytes) where
-  pub code-empty : length e ≡ 0 → elementCode d r e ≡ first ((r .mandatory ⇒ 1) ∷ [])
-  unfolding elementCode
+-- by whether its bytes are valid
+module _ (r : Row) (e : Bytes) (v : Bool) where
+  pub code-empty : length e ≡ 0 → codeBy v r e ≡ first ((r .mandatory ⇒ 1) ∷ [])
+  unfolding codeBy
   code-empty h = rw (empty e h)
 
-  pub code-filled : (length e ≡ 0 → ⊥) → elementCode d r e ≡ if all (valid d) e then valueCode r e else 6
-  unfolding elementCode valueCode
-  code-filled h =
-      let k = r .kind in
-      rw (filled e h)
-      (in-order (all (valid d) e) (spelledAs k e) (ltb (valueLength k e) (r .shortest)) (ltb (r .longest) (valueLength k e))
-      (unlisted r e) (isDT k && not (isDate e)) (isTM k && not (isTime e)))
+  pub code-filled : (length e ≡ 0 → ⊥) → codeBy v r e ≡ if v then valueCode r e else 6
+  unfolding codeBy
+  code-filled h = rw (filled e h)
 
-module _ (r : Row) where
-  pub takes-empty : (e : Bytes) → length e ≡ 0 → takes r e ≡ not (r .mandatory)
-  unfolding takes
-  takes-empty e h = rw (empty e h)
-
-  pub takes-filled : (e : Bytes) → (length e ≡ 0 → ⊥) → takes r e ≡ eqb (valueCode r e) 0
-  unfolding takes
-  takes-filled e h = rw (filled e h)
-
-  -- what is taken of values of valid bytes, and of others
-  pub takes-valid : (d : Delimiters) (e : Bytes) → all (valid d) e ≡ true → eqb (elementCode d r e) 0 ≡ takes r e
-  takes-valid d [] v = rw (code-empty d r [] refl, takes-empty [] refl) (mandatory-code (r .mandatory))
-  takes-valid d (b ∷ e) v = rw (code-filled d r (b ∷ e) (λ h. omega arith), v, takes-filled (b ∷ e) (λ h. omega arith))
-
-  pub takes-spoiled : (d : Delimiters) (e : Bytes) → all (valid d) e ≡ false → eqb (elementCode d r e) 0 ≡ false
-  unfolding all
-  takes-spoiled d [] v = absurd (true≢false v)
-  takes-spoiled d (b ∷ e) v = rw (code-filled d r (b ∷ e) (λ h. omega arith), v)
+-- which is the code of document 01
+pub code-is : (d : Delimiters) (r : Row) (e : Bytes) → codeBy (all (valid d) e) r e ≡ elementCode d r e
+unfolding codeBy elementCode valueCode
+code-is d r [] = refl
+code-is d r (b ∷ e) =
+    let k = r .kind in
+    let bs = b ∷ e in
+    sym (in-order (all (valid d) bs) (spelledAs k bs) (ltb (valueLength k bs) (r .shortest)) (ltb (r .longest) (valueLength k bs))
+    (unlisted r bs) (isDT k && not (isDate bs)) (isTM k && not (isTime bs)))
 
 -- by what each test says of the row
 pub value-by : (r : Row) (e : Bytes) {row : ElementRow} → row ≡ elementRow r

@@ -1,3 +1,4 @@
 pub mod Codes
 pub mod Notes
 pub mod Places
+pub mod Checks

@@ -1,6 +1,6 @@
 -- Syntax notes: the relations test by test, the notes of an entry at a cursor, and which code a broken note gives.
-use mathlib.Core.Path.{_≡_, refl, _∙_}
-use mathlib.Core.Bool.{Bool, true, false, _&&_, _||_, not, true≢false}
+use mathlib.Core.Path.{_≡_, refl, sym, _∙_}
+use mathlib.Core.Bool.{Bool, true, false, _&&_, _||_, not, Bool·beq, true≢false}
 use mathlib.Core.List.{List, [], _∷_}
 use Prim.Native.Nat.{ℕ, _+_, _-_, _<_, _≤_}
 use native.Mathlib.Numerals.{add-one}
@@ -9,7 +9,7 @@ use borrow.Author.Tests.{eqb-true}
 use lib.Dec.{eqb}
 use lib.ListN.{length, getD, take, drop, drop-of-length-le, length-drop}
 use lib.Seq.{drop-cons, take-all}
-use Rattle.rules.specs.Base.{any, if_then_else_}
+use Rattle.rules.specs.Base.{any}
 use Rattle.rules.specs.Cutting.{Segment}
 use Rattle.rules.specs.Elements.{present, isPlace, afterPresent, lacking, excluded, lacks, shutsOut}
 use Rattle.rules.specs.Tables.{Syntax}
@@ -17,10 +17,10 @@ use Rattle.tables.specs.Rows.{isRow, syntaxIn}
 use Rattle.rules.specs.declared.Relation.{Relation}
 use Rattle.rules.specs.declared.Relation.the-variants.{P, R, E, C, L}
 use Rattle.rules.proofs.Logic.{or-left, or-right}
-use Rattle.text.proofs.Loops.{and-false, or-false}
+use Rattle.text.proofs.Loops.{and-false}
 use Rattle.tables.specs.Reading.{Guide, noteAt}
 use Rattle.tables.proofs.Laws.{notes-here, notes-skip, notes-stop, notes-end}
-use Rattle.elements.specs.Notes.{breaks, breaksBy, concerns}
+use Rattle.elements.specs.Notes.{breaks, isE, shuts}
 
 -- 1. The places after the first present one, at a cursor.
 module _ (s : Segment) (ps : List ℕ) (k : ℕ) where
@@ -139,36 +139,37 @@ module _ (s : Segment) (n : ℕ) where
   shuts-absent [] e = refl
   shuts-absent (c ∷ notes) e = rw (excluded-absent (c .relation) (c .places) e) (shuts-absent notes e)
 
-  pub breaks-absent : (notes : List Syntax) → present s n ≡ false → any (breaks s n) notes ≡ lacks notes s n
-  unfolding lacks any
-  breaks-absent [] e = refl
-  breaks-absent (c ∷ notes) e =
-      rw (excluded-absent (c .relation) (c .places) e, or-false (lacking s (c .relation) (c .places) n), breaks-absent notes e)
+  -- so E is not broken where an element is absent, nor another relation where it is present
+  pub breaks-not : (b : Bool) (r : Relation) (ps : List ℕ) → not (Bool·beq (isE r) b) ≡ true → breaks b s n (record { relation = r; places = ps }) ≡ false
+  breaks-not true E ps e = absurd (true≢false (sym e))
+  breaks-not true P ps e = refl
+  breaks-not true R ps e = refl
+  breaks-not true C ps e = refl
+  breaks-not true L ps e = refl
+  breaks-not false E ps e = refl
+  breaks-not false P ps e = absurd (true≢false (sym e))
+  breaks-not false R ps e = absurd (true≢false (sym e))
+  breaks-not false C ps e = absurd (true≢false (sym e))
+  breaks-not false L ps e = absurd (true≢false (sym e))
 
-  pub breaks-present : (notes : List Syntax) → present s n ≡ true → any (breaks s n) notes ≡ shutsOut notes s n
-  unfolding shutsOut any
-  breaks-present [] e = refl
-  breaks-present (c ∷ notes) e = rw (lacking-present (c .relation) (c .places) e, breaks-present notes e)
-
-  -- a note that does not concern the place is not broken there
-  pub unconcerned : (b : Bool) (notes : List Syntax) → present s n ≡ b → any (concerns b) notes ≡ false → any (breaks s n) notes ≡ false
+  -- where none shuts out, none is broken where an element is present
+  none-shuts : (notes : List Syntax) → any shuts notes ≡ false → any (breaks true s n) notes ≡ false
   unfolding any
-  unconcerned b [] e f = refl
-  unconcerned b (c ∷ notes) e f =
-      rw (one b (c .relation) (c .places) e (or-left (concerns b c) (any (concerns b) notes) f))
-      (unconcerned b notes e (or-right (concerns b c) (any (concerns b) notes) f))
-    where
-      one : (b : Bool) (r : Relation) (ps : List ℕ) → present s n ≡ b → concerns b (record { relation = r; places = ps }) ≡ false → breaksBy s n r ps ≡ false
-      one true E ps e f = absurd (true≢false f)
-      one true P ps e f = rw (lacking-present P ps e)
-      one true R ps e f = rw (lacking-present R ps e)
-      one true C ps e f = rw (lacking-present C ps e)
-      one true L ps e f = rw (lacking-present L ps e)
-      one false E ps e f = excluded-absent E ps e
-      one false P ps e f = absurd (true≢false f)
-      one false R ps e f = absurd (true≢false f)
-      one false C ps e f = absurd (true≢false f)
-      one false L ps e f = absurd (true≢false f)
+  none-shuts [] e = refl
+  none-shuts (c ∷ notes) e =
+      let later = any shuts notes in
+      rw (breaks-not true (c .relation) (c .places) (rw (or-left (shuts c) later e))) (none-shuts notes (or-right (shuts c) later e))
+
+  pub unbroken : (notes : List Syntax) (q b : Bool) → q ≡ any shuts notes → q || not b ≡ false → any (breaks b s n) notes ≡ false
+  unbroken notes q true p e = none-shuts notes (sym p ∙ or-left q false e)
+  unbroken notes q false p e = absurd (true≢false (or-right q true e))
+
+-- no difference
+pub alike : (a b : Bool) → not (Bool·beq a b) ≡ false → a ≡ b
+alike true true e = refl
+alike true false e = absurd (true≢false e)
+alike false true e = absurd (true≢false e)
+alike false false e = refl
 
 -- 4. The notes of an entry at a cursor: the one at row k passes as q says, and the rest decides.
 module _ (p : Syntax → Bool) (rows : Guide) (k : ℕ) where

@@ -1,3 +1,3 @@
 pub mod Values
 pub mod Notes
-pub mod Places
+pub mod Checks

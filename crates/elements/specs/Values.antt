@@ -1,8 +1,8 @@
--- The code of a value of valid bytes by a row, and the values that have none.
+-- The code of an element by a row, once it is known whether its bytes are valid.
 use Prim.Native.Nat.{ℕ}
 use mathlib.Core.Bool.{Bool, true, false, _&&_, _||_, not}
 use mathlib.Core.List.{[], _∷_}
-use lib.Dec.{eqb, ltb}
+use lib.Dec.{ltb}
 use Rattle.rules.specs.Base.{Bytes, _⇒_, first, null, all, between, isDigit, member, if_then_else_}
 use Rattle.rules.specs.Elements.{isN0, isDT, isTM, unsigned, valueLength}
 use Rattle.rules.specs.Numbers.{isDate, isTime}
@@ -32,9 +32,9 @@ valueCode r e =
     else ruleCode (r .kind) e)))
     else 6
 
--- a value of valid bytes has no code
-unfoldable pub takes : Row → Bytes → Bool
-takes r e = if null e then not (r .mandatory) else eqb (valueCode r e) 0
+-- the code of an element, by whether its bytes are valid
+unfoldable pub codeBy : Bool → Row → Bytes → ℕ
+codeBy valid r e = if null e then first ((r .mandatory ⇒ 1) ∷ []) else (if valid then valueCode r e else 6)
 
 -- types AN and ID have no rule of their own
 abbrev pub isText : Kind → Bool

@@ -1,18 +1,19 @@
-// Notes on elements: the code of a value by its row, the syntax notes, and whether a segment has any finding.
+// Notes on elements: the code of a value by its row, the syntax notes, and the findings of a segment, one place after the other.
 ghost use mathlib.Core.Path.{_≡_};
-ghost use mathlib.Core.Bool.{_&&_, not};
+ghost use mathlib.Core.Bool.{true, _&&_, not};
 ghost use mathlib.Core.List.{[], _∷_};
-ghost use Prim.Native.Nat.{_+_};
+ghost use Prim.Native.Nat.{_+_, _<_};
+ghost use lib.Dec.{eqb};
 ghost use lib.ListN.{getD, drop};
-ghost use Rattle.rules.specs.Base.{_⇒_, first, null, any, if_then_else_};
+ghost use Rattle.rules.specs.Base.{_⇒_, first, any};
 ghost use Rattle.rules.specs.Cutting.{split};
 ghost use Rattle.rules.specs.Elements as law;
 ghost use Rattle.rules.specs.Numbers.{isDate, isTime};
 ghost use Rattle.tables.specs.Rows as rows;
-ghost use Rattle.tables.specs.Reading.{rowAt, noteAt, entryAt};
-ghost use Rattle.elements.specs.Values.{isText, unlisted, spelledAs, ruleCode, valueCode, takesLength, takes};
-ghost use Rattle.elements.specs.Notes.{isE, breaks, breaksBy, breaksBefore, concerns};
-ghost use Rattle.elements.specs.Places.{nextCode, nextStart, endsField};
+ghost use Rattle.tables.specs.Reading.{rowAt, noteAt};
+ghost use Rattle.elements.specs.Values.{isText, unlisted, spelledAs, ruleCode, valueCode, takesLength, codeBy};
+ghost use Rattle.elements.specs.Notes.{isE, shuts, breaks, noteCodeBy, breaksBefore};
+ghost use Rattle.elements.specs.Checks.{isSome, placeAfter, noteRow, nextStart, fieldAfter, codesAt, surplus, nextFound, start};
 use rules::Delimiters;
 use rules::Kind;
 use rules::Relation;
@@ -113,7 +114,7 @@ fn value_code(e: &[u8], guide: &[[u16; 6]], k: usize) -> u8
     rule_code(e, kind)
 }
 
-// The code of an element's value by row k, 0 for none.
+// The code of an element by row k, 0 for none.
 fn element_code(e: &[u8], d: Delimiters, guide: &[[u16; 6]], k: usize) -> u8
     ensures { λ r. ⌜ r ≡ law.elementCode d (rowAt (now (guide .entry)) k) (now (e .entry)) ⌝ }
 {
@@ -154,9 +155,9 @@ fn takes_length(n: usize, guide: &[[u16; 6]], k: usize) -> bool
     row.shortest <= n && n <= row.longest
 }
 
-// A value of valid bytes has no code by row k. Most rows ask only for its length, so that is tried first.
+// An element of valid bytes has no code by row k. Most rows ask only for its length, so that is tried first.
 pub fn takes(e: &[u8], guide: &[[u16; 6]], k: usize) -> bool
-    ensures { λ r. ⌜ r ≡ takes (rowAt (now (guide .entry)) k) (now (e .entry)) ⌝ }
+    ensures { λ r. ⌜ r ≡ eqb (codeBy true (rowAt (now (guide .entry)) k) (now (e .entry))) 0 ⌝ }
 {
     if e.len() == 0 {
         return empty_code(guide, k) == 0;
@@ -287,7 +288,7 @@ fn lacks_any_other(s: &[u8], e: u8, places: &[usize], n: usize) -> bool
 
 // The relation between the places is broken at place n: an element lacks there, or one is shut out.
 fn is_broken(relation: Relation, s: &[u8], e: u8, places: &[usize], n: usize) -> bool
-    ensures { λ r. ⌜ r ≡ breaksBy (split e (now (s .entry))) n relation (now (places .entry)) ⌝ }
+    ensures { λ r. ⌜ r ≡ breaks (isE relation) (split e (now (s .entry))) n (record { relation = relation; places = now (places .entry) }) ⌝ }
 {
     match relation {
         Relation::P => lacks_pair(s, e, places, n),
@@ -296,37 +297,6 @@ fn is_broken(relation: Relation, s: &[u8], e: u8, places: &[usize], n: usize) ->
         Relation::C => lacks_other(s, e, places, n),
         Relation::L => lacks_any_other(s, e, places, n),
     }
-}
-
-// Row k is a note that is broken at place n.
-fn breaks_note(s: &[u8], e: u8, guide: &[[u16; 6]], k: usize, n: usize) -> bool
-    ensures { λ r. ⌜ r ≡ (rows.isRow 4 (getD (now (guide .entry)) k []) && breaks (split e (now (s .entry))) n (noteAt (now (guide .entry)) k)) ⌝ }
-{
-    if !tables::is_note(guide, k) {
-        return false;
-    }
-    let relation = tables::relation_at(guide, k);
-    let places = tables::places_at(guide, k);
-    let numbers = places.numbers;
-    let count = places.count;
-    is_broken(relation, s, e, &numbers[..count], n)
-}
-
-// A note from row `from` on is broken at place n.
-fn breaks_notes(s: &[u8], e: u8, guide: &[[u16; 6]], from: usize, n: usize) -> bool
-    ensures { λ r. ⌜ r ≡ any (breaks (split e (now (s .entry))) n) (rows.syntaxIn (drop from (now (guide .entry)))) ⌝ }
-{
-    let mut k = from;
-    while k < guide.len() {
-        if tables::is_segment(guide, k) {
-            return false;
-        }
-        if breaks_note(s, e, guide, k, n) {
-            return true;
-        }
-        k += 1;
-    }
-    false
 }
 
 // E shuts out what is present; each other relation asks for what is absent.
@@ -342,27 +312,33 @@ fn shuts_out(relation: Relation) -> bool
     }
 }
 
-// Row k is a note that can be broken where an element is present, or where it is absent.
-fn concerns(guide: &[[u16; 6]], k: usize, present: bool) -> bool
-    ensures { λ r. ⌜ r ≡ (rows.isRow 4 (getD (now (guide .entry)) k []) && concerns present (noteAt (now (guide .entry)) k)) ⌝ }
+// Row k is a note that is broken at place n, which is present or absent.
+fn breaks_note(s: &[u8], e: u8, guide: &[[u16; 6]], k: usize, n: usize, present: bool) -> bool
+    ensures { λ r. ⌜ r ≡ (rows.isRow 4 (getD (now (guide .entry)) k []) && breaks present (split e (now (s .entry))) n (noteAt (now (guide .entry)) k)) ⌝ }
 {
     if !tables::is_note(guide, k) {
         return false;
     }
-    let shuts = shuts_out(tables::relation_at(guide, k));
-    if present { shuts } else { !shuts }
+    let relation = tables::relation_at(guide, k);
+    if shuts_out(relation) != present {
+        return false;
+    }
+    let places = tables::places_at(guide, k);
+    let numbers = places.numbers;
+    let count = places.count;
+    is_broken(relation, s, e, &numbers[..count], n)
 }
 
-// Such a note stands from row `from` on.
-fn concerns_any(guide: &[[u16; 6]], from: usize, present: bool) -> bool
-    ensures { λ r. ⌜ r ≡ any (concerns present) (rows.syntaxIn (drop from (now (guide .entry)))) ⌝ }
+// A note from row `from` on is broken at place n, which is present or absent.
+fn breaks_notes(s: &[u8], e: u8, guide: &[[u16; 6]], from: usize, n: usize, present: bool) -> bool
+    ensures { λ r. ⌜ r ≡ any (breaks present (split e (now (s .entry))) n) (rows.syntaxIn (drop from (now (guide .entry)))) ⌝ }
 {
     let mut k = from;
     while k < guide.len() {
         if tables::is_segment(guide, k) {
             return false;
         }
-        if concerns(guide, k, present) {
+        if breaks_note(s, e, guide, k, n, present) {
             return true;
         }
         k += 1;
@@ -370,68 +346,70 @@ fn concerns_any(guide: &[[u16; 6]], from: usize, present: bool) -> bool
     false
 }
 
-// A note from row `from` on is broken at place n, which is present or absent.
-fn breaks_any(s: &[u8], e: u8, guide: &[[u16; 6]], from: usize, n: usize, present: bool) -> bool
-    requires { ⌜ present ≡ law.present (split e (now s)) n ⌝ }
-    ensures { λ r. ⌜ r ≡ any (breaks (split e (now (s .entry))) n) (rows.syntaxIn (drop from (now (guide .entry)))) ⌝ }
+// The code that the notes from row `from` on give place n: what is present is shut out (10), and what is absent is asked for (2).
+fn note_code(s: &[u8], e: u8, guide: &[[u16; 6]], from: usize, n: usize, present: bool) -> u8
+    ensures { λ r. ⌜ r ≡ noteCodeBy present (rows.syntaxIn (drop from (now (guide .entry)))) (split e (now (s .entry))) n ⌝ }
 {
-    concerns_any(guide, from, present) && breaks_notes(s, e, guide, from, n)
-}
-
-// A code of a place, 0 for none, and whether one more comes after it.
-pub struct Coded {
-    pub code: u8,
-    pub more: bool,
-}
-
-// The code of a broken note: what is present is shut out (10), and what is absent is asked for (2).
-fn note_code(broken: bool, present: bool) -> u8
-    ensures { λ r. ⌜ r ≡ (if broken then (if present then 10 else 2) else 0) ⌝ }
-{
-    if !broken {
+    if !breaks_notes(s, e, guide, from, n, present) {
         return 0;
     }
     if present { 10 } else { 2 }
 }
 
-// The next code of place n by the element of row k: that of its value, which may be told already, and then that of the entry's notes.
-pub fn next_code(
-    s: &[u8],
-    d: Delimiters,
-    guide: &[[u16; 6]],
-    entry: usize,
-    k: usize,
-    n: usize,
-    told: bool,
-) -> Coded
-    ensures { λ r. ⌜ r ≡ nextCode d (entryAt (now (guide .entry)) entry .notes) (split (d .element) (now (s .entry))) (rowAt (now (guide .entry)) k) n told ⌝ }
-{
-    let field = segments::field(s, d.element, n);
-    let present = 0 < field.len();
-    let broken = breaks_notes(s, d.element, guide, tables::below(guide, entry), n);
-    let own = element_code(field, d, guide, k);
-    if told | (own == 0) {
-        return Coded {
-            code: note_code(broken, present),
-            more: false,
-        };
-    }
-    Coded {
-        code: own,
-        more: broken,
+// Where the check of a segment has come to: the next row, the place of the next element, and where the field before it ends. The notes of its
+// entry stand from row `notes` on.
+pub struct Cursor {
+    pub notes: usize,
+    pub row: usize,
+    pub place: usize,
+    pub end: usize,
+}
+
+// The codes of a place: that of its value and that of the notes, each 0 for none.
+pub struct PlaceCodes {
+    pub place: usize,
+    pub reference: u16,
+    pub own: u8,
+    pub noted: u8,
+}
+
+// What a check finds next: the codes of a place that has any, and where it goes on.
+pub enum Found {
+    Codes(PlaceCodes, Cursor),
+    Nothing,
+}
+
+impl Found {
+    // Something is found.
+    pub fn is_some(self) -> bool
+        ensures { λ r. ⌜ r ≡ isSome self ⌝ }
+    {
+        match self {
+            Found::Codes(_, _) => true,
+            Found::Nothing => false,
+        }
     }
 }
 
-// The first note or segment from row `from` on: no note stands before it.
+const LARGEST: usize = 18446744073709551615;
+
+// The place after place n, as far as 64 bits go.
+fn place_after(n: usize) -> usize
+    ensures { λ r. ⌜ r ≡ placeAfter n ⌝ }
+{
+    if n < LARGEST {
+        return n + 1;
+    }
+    n
+}
+
+// The first note or segment from row `from` on; the number of rows where there is none, and `from` where that is past the end.
 fn first_note(guide: &[[u16; 6]], from: usize) -> usize
-    ensures { λ r. ⌜ rows.syntaxIn (drop r (now (guide .entry))) ≡ rows.syntaxIn (drop from (now (guide .entry))) ⌝ }
+    ensures { λ r. ⌜ r ≡ noteRow (now (guide .entry)) from ⌝ }
 {
     let mut k = from;
     while k < guide.len() {
-        if tables::is_note(guide, k) {
-            return k;
-        }
-        if tables::is_segment(guide, k) {
+        if tables::is_note(guide, k) | tables::is_segment(guide, k) {
             return k;
         }
         k += 1;
@@ -439,24 +417,58 @@ fn first_note(guide: &[[u16; 6]], from: usize) -> usize
     k
 }
 
-// Where the field starts that follows the one which ends at `end`; `end` itself where none follows.
+// Where the field starts that follows the one which ends at `end`; the segment's end where none follows.
 fn next_start(s: &[u8], end: usize) -> usize
     ensures { λ r. ⌜ r ≡ nextStart (now (s .entry)) end ⌝ }
 {
     if end < s.len() {
         return end + 1;
     }
-    end
+    s.len()
 }
 
-// A field ends at i: a separator stands there, or nothing.
-fn ends_field(s: &[u8], e: u8, i: usize) -> bool
-    ensures { λ r. ⌜ r ≡ endsField e (now (s .entry)) i ⌝ }
+// A field: from where to where it lies.
+struct Field {
+    start: usize,
+    end: usize,
+}
+
+// The field that follows the one which ends at `end`.
+fn field_after(s: &[u8], e: u8, end: usize) -> Field
+    ensures { λ r. ⌜ r ≡ fieldAfter e (now (s .entry)) end ⌝ }
 {
-    if i < s.len() {
-        return s[i] == e;
+    let start = next_start(s, end);
+    Field {
+        start,
+        end: text::find_near(s, start, e),
     }
-    true
+}
+
+// Row k is a note that shuts out.
+fn is_shutting(guide: &[[u16; 6]], k: usize) -> bool
+    ensures { λ r. ⌜ r ≡ (rows.isRow 4 (getD (now (guide .entry)) k []) && shuts (noteAt (now (guide .entry)) k)) ⌝ }
+{
+    if !tables::is_note(guide, k) {
+        return false;
+    }
+    shuts_out(tables::relation_at(guide, k))
+}
+
+// Such a note stands from row `from` on.
+fn shuts_any(guide: &[[u16; 6]], from: usize) -> bool
+    ensures { λ r. ⌜ r ≡ any shuts (rows.syntaxIn (drop from (now (guide .entry)))) ⌝ }
+{
+    let mut k = from;
+    while k < guide.len() {
+        if tables::is_segment(guide, k) {
+            return false;
+        }
+        if is_shutting(guide, k) {
+            return true;
+        }
+        k += 1;
+    }
+    false
 }
 
 // A note of the rows from `from` on is broken at a place before n.
@@ -464,52 +476,105 @@ pub fn breaks_before(s: &[u8], e: u8, guide: &[[u16; 6]], from: usize, n: usize)
     ensures { λ r. ⌜ r ≡ breaksBefore n (split e (now (s .entry))) (rows.syntaxIn (drop from (now (guide .entry)))) ⌝ }
 {
     let notes = first_note(guide, from);
+    // Few entries have a note that shuts out, and no other is broken where an element is present.
+    let shuts = shuts_any(guide, notes);
     let mut end = text::find_near(s, 0, e);
     let mut m = 1;
     while m < n {
-        let start = next_start(s, end);
-        end = text::find_near(s, start, e);
-        if breaks_any(s, e, guide, notes, m, start < end) {
+        let field = field_after(s, e, end);
+        let present = field.start < field.end;
+        if (shuts | !present) && breaks_notes(s, e, guide, notes, m, present) {
             return true;
         }
+        end = field.end;
         m += 1;
     }
     false
 }
 
-// The segment has no finding by its entry.
-pub fn is_clean(s: &[u8], d: Delimiters, guide: &[[u16; 6]], entry: usize) -> bool
-    ensures { λ r. ⌜ r ≡ null (law.findings d (entryAt (now (guide .entry)) entry) (split (d .element) (now (s .entry)))) ⌝ }
+// The codes of the next place by the element of the next row, in the next field.
+fn codes_of(s: &[u8], d: Delimiters, guide: &[[u16; 6]], c: Cursor, field: Field) -> PlaceCodes
+    requires { ⌜ field ≡ fieldAfter (d .element) (now s) (c .end) ⌝ }
+    ensures { λ r. ⌜ r ≡ codesAt d (now (s .entry)) (now (guide .entry)) c ⌝ }
 {
-    let mut k = tables::below(guide, entry);
-    let notes = first_note(guide, k);
-    // Place n comes next, after the field that ends at `end`.
-    let mut n: usize = 1;
-    let mut end = text::find_near(s, 0, d.element);
-    while k < guide.len() {
-        if tables::is_segment(guide, k) {
-            return s.len() <= end;
-        }
-        if !tables::is_element(guide, k) {
-            k += 1;
+    let start = field.start;
+    let end = field.end;
+    let e = &s[start..end];
+    let row = tables::element_at(guide, c.row);
+    PlaceCodes {
+        place: c.place,
+        reference: row.reference,
+        own: element_code(e, d, guide, c.row),
+        noted: note_code(s, d.element, guide, c.notes, c.place, start < end),
+    }
+}
+
+// The cursor at the row below, with this place, after the field that ends at `end`.
+fn next_row(c: Cursor, place: usize, end: usize) -> Cursor
+    requires { ⌜ c .row < 18446744073709551615 ⌝ }
+    ensures { λ r. ⌜ r ≡ record { notes = c .notes; row = c .row + 1; place = place; end = end } ⌝ }
+{
+    let row = c.row + 1;
+    Cursor {
+        notes: c.notes,
+        row,
+        place,
+        end,
+    }
+}
+
+// Code 3 where an element stands beyond the rows.
+fn surplus(s: &[u8], c: Cursor) -> Found
+    ensures { λ r. ⌜ r ≡ surplus (now (s .entry)) c ⌝ }
+{
+    if c.end < s.len() {
+        let codes = PlaceCodes {
+            place: c.place,
+            reference: 0,
+            own: 3,
+            noted: 0,
+        };
+        let over = Cursor {
+            notes: c.notes,
+            row: c.row,
+            place: c.place,
+            end: s.len(),
+        };
+        return Found::Codes(codes, over);
+    }
+    Found::Nothing
+}
+
+// What the check of a segment finds next.
+pub fn next_found(s: &[u8], d: Delimiters, guide: &[[u16; 6]], cursor: Cursor) -> Found
+    ensures { λ r. ⌜ r ≡ nextFound d (now (s .entry)) (now (guide .entry)) cursor ⌝ }
+{
+    let mut c = cursor;
+    while c.row < guide.len() && !tables::is_segment(guide, c.row) {
+        if !tables::is_element(guide, c.row) {
+            c = next_row(c, c.place, c.end);
             continue;
         }
-        let start = next_start(s, end);
-        let next = text::find_invalid(s, start, d);
-        // A byte that is neither valid nor a separator has code 6.
-        if !ends_field(s, d.element, next) {
-            return false;
+        let field = field_after(s, d.element, c.end);
+        let codes = codes_of(s, d, guide, c, field);
+        c = next_row(c, place_after(c.place), field.end);
+        if (codes.own != 0) | (codes.noted != 0) {
+            return Found::Codes(codes, c);
         }
-        let field = &s[start..next];
-        if !takes(field, guide, k) {
-            return false;
-        }
-        if breaks_any(s, d.element, guide, notes, n, 0 < field.len()) {
-            return false;
-        }
-        end = next;
-        n += 1;
-        k += 1;
     }
-    s.len() <= end
+    surplus(s, c)
+}
+
+// What the check of a segment by its entry finds first.
+pub fn first_found(s: &[u8], d: Delimiters, guide: &[[u16; 6]], entry: usize) -> Found
+    ensures { λ r. ⌜ r ≡ nextFound d (now (s .entry)) (now (guide .entry)) (start d (now (s .entry)) (now (guide .entry)) entry) ⌝ }
+{
+    let row = tables::below(guide, entry);
+    let c = Cursor {
+        notes: first_note(guide, row),
+        row,
+        place: 1,
+        end: text::find_near(s, 0, d.element),
+    };
+    next_found(s, d, guide, c)
 }

@@ -1,7 +1,7 @@
 -- What a walk from the start has to tell is the notes of document 01.
 use mathlib.Core.Path.{_≡_, refl, sym, ap, _∙_}
 use mathlib.Core.Bool.{Bool, true, false, _&&_, _||_, not}
-use mathlib.Core.List.{List, [], _∷_, _++_, map, map-append, append-nil, append-assoc}
+use mathlib.Core.List.{List, [], _∷_, _++_, map, append-nil, append-assoc}
 use mathlib.Core.Option.{none, some}
 use Prim.Native.Nat.{ℕ, zero, suc, _+_, _-_, _<_, _≤_}
 use native.Mathlib.Nat.{le-of-suc-le-suc, not-suc-le-zero, add-zero, zero-add}
@@ -9,13 +9,13 @@ use native.Mathlib.Numerals.{add-one}
 use native.Mathlib.Omega.{arith}
 use borrow.Author.Tests.{lt-ltb, le-ltb, ltb-true, ltb-false, eq-eqb, ne-eqb}
 use lib.Dec.{ltb, eqb}
-use lib.ListN.{length, take, drop, getD, length-drop, length-map}
+use lib.ListN.{length, take, drop, getD, length-map}
 use lib.Seq.{slice, slice-empty, take-nil, drop-cons, getD-drop}
 use Rattle.rules.specs.Base.{Bytes, ascii, null, all, same, member, keep, every, _⇒_, if_then_else_}
 use Rattle.rules.specs.Cutting.{Segment, field, cutAt, pieces, segments}
-use Rattle.rules.specs.Tables.{Syntax, Entry, Row, Table}
-use Rattle.tables.specs.Rows.{column, isRow, filled, rowIs, codesIn, rowsIn, entryIs, entriesIn, idsIn, tableOf}
-use Rattle.rules.specs.Elements.{elementCode, placeCodes, found, findingsFrom, findings}
+use Rattle.rules.specs.Tables.{Entry, Table}
+use Rattle.tables.specs.Rows.{column, isRow, filled, entryIs, entriesIn, idsIn, tableOf}
+use Rattle.rules.specs.Elements.{findings}
 use Rattle.rules.specs.Segments.{Note, indexFrom, standing, findingsBy, missing, echoed, noted, segmentNote, walk, notesOf}
 use Rattle.rules.specs.Segments as law
 use Rattle.rules.specs.declared.Delimiters.{Delimiters}
@@ -25,11 +25,9 @@ use Rattle.text.proofs.Loops.{all-drop}
 use Rattle.text.specs.Text.{indexWhere}
 use Rattle.tables.specs.Reading.{Guide, Limits, isByte, entryAt, entryRow, idIn, isEntryRow, idAt, idBytes, idsAreBytes}
 use Rattle.tables.proofs.Laws as reading
-use Rattle.elements.specs.Places.{noteCode}
-use Rattle.elements.proofs.Places.{place-codes}
 use Rattle.findings.specs.Events.{Event, Line, Element, flat}
-use Rattle.findings.specs.Steps.{bumped, start, compared, stands, ownOf, checkOf, presentOf, passingOf, isChecked, codesOf}
-use Rattle.findings.specs.Remaining.{Slots, events, missingThen, foundSlot, surplusSlot, codesThen, placesThen, lined, segmentThen, trailerSlots, walkSlots, setSlots, remaining}
+use Rattle.findings.specs.Steps.{bumped, start, compared, stands, outcome, ownOf, checkOf, presentOf, passingOf}
+use Rattle.findings.specs.Remaining.{events, missingIn, lined, checked, segmentEvents, trailerSlots, walkSlots, setSlots, remaining}
 use Rattle.findings.specs.declared.Present.{Present}
 use Rattle.findings.specs.declared.Standing.{Standing}
 use Rattle.findings.specs.declared.Standing.the-variants.{Unknown, Unlisted, Before, Again, Later}
@@ -124,19 +122,18 @@ module _ (rows : Guide) (k : ℕ) (e : isRow 1 (getD rows k []) ≡ true) where
       let q = index-add (k + 1) (j - (k + 1)) j rows (omega arith) in
       omega (arith, index-next)
 
-module _ (n : ℕ) (rest : Slots) where
+module _ (n : ℕ) where
   missing-law : (i : ℕ) (xs : Guide) → all hasByteId xs ≡ true
-      → events (missingThen n (take i xs) rest) ≡ flat (missing n (take (indexAt i xs) (entriesIn xs))) ++ events rest
-  unfolding events missingThen indexAt flat missing keep entriesIn
+      → missingIn n (take i xs) ≡ flat (missing n (take (indexAt i xs) (entriesIn xs)))
+  unfolding missingIn indexAt flat missing keep entriesIn
   missing-law zero xs h = refl
   missing-law (suc i) [] h = refl
   missing-law (suc i) (x ∷ xs) h =
       go (isRow 1 x) refl (eqb (column x 4) 1) refl (missing-law i xs (all-tail hasByteId x xs h))
     where
       go : (b : Bool) → isRow 1 x ≡ b → (m : Bool) → eqb (column x 4) 1 ≡ m
-          → events (missingThen n (take i xs) rest) ≡ flat (missing n (take (indexAt i xs) (entriesIn xs))) ++ events rest
-          → events (missingThen n (take (suc i) (x ∷ xs)) rest)
-          ≡ flat (missing n (take (indexAt (suc i) (x ∷ xs)) (entriesIn (x ∷ xs)))) ++ events rest
+          → missingIn n (take i xs) ≡ flat (missing n (take (indexAt i xs) (entriesIn xs)))
+          → missingIn n (take (suc i) (x ∷ xs)) ≡ flat (missing n (take (indexAt (suc i) (x ∷ xs)) (entriesIn (x ∷ xs))))
       go false e m g ih = rw e ih
       go true e true g ih =
           rw (e, g, id-bytes x e (all-head hasByteId x xs h)) (ap (λ (l : List Event). Line (filled (idIn x)) n (3 ∷ []) ∷ l) ih)
@@ -144,7 +141,7 @@ module _ (n : ℕ) (rest : Slots) where
 
   -- from row k up to row e
   passed-law : (rows : Guide) (k e : ℕ) → k ≤ e → all hasByteId rows ≡ true
-      → events (missingThen n (slice k e rows) rest) ≡ flat (missing n (slice (indexAt k rows) (indexAt e rows) (entriesIn rows))) ++ events rest
+      → missingIn n (slice k e rows) ≡ flat (missing n (slice (indexAt k rows) (indexAt e rows) (entriesIn rows)))
   passed-law rows k e h b =
       rw (
         slice-take k (e - k) e rows (omega arith),
@@ -190,93 +187,22 @@ module _ (id : Bytes) where
           let l : m + 1 + indexAt i xs ≡ m + suc (indexAt i xs) = omega arith in
           (rw (f, z, ← l) (r .0), r .1)
 
--- 3. The places of a segment.
-module _ (d : Delimiters) (notes : List Syntax) (s : Segment) (rest : Slots) where
-  surplus-law : (n : ℕ) → events (surplusSlot d notes s n ∷ rest) ≡ map Element (findingsFrom d notes s n []) ++ events rest
-  unfolding events findingsFrom
-  surplus-law n = go (ltb n (length s))
-    where
-      go : (b : Bool) → foundSlot n 0 (if b then 3 else 0) ++ events rest
-          ≡ map Element (if b then record { place = n; reference = 0; code = 3 } ∷ [] else []) ++ events rest
-      go true = refl
-      go false = refl
-
-  codes-law : (r : List ℕ) (rs : Guide) (n : ℕ) (next : Slots)
-      → events (codesThen d notes s r rs n false next)
-      ≡ map Element (map (found n (rowIs r (codesIn rs))) (placeCodes d notes s (rowIs r (codesIn rs)) n)) ++ events next
-  unfolding events every
-  codes-law r rs n next = rw (place-codes notes s n d row) (go (eqb own 0) refl (eqb noted 0) refl)
-    where
-      row : Row
-      row = rowIs r (codesIn rs)
-
-      own : ℕ
-      own = elementCode d row (field s n)
-
-      noted : ℕ
-      noted = noteCode notes s n
-
-      go : (z : Bool) → eqb own 0 ≡ z → (w : Bool) → eqb noted 0 ≡ w
-          → events (codesThen d notes s r rs n false next) ≡ map Element (map (found n row) (every ((not z ⇒ own) ∷ (not w ⇒ noted) ∷ []))) ++ events next
-      go true e true f = rw (e, f)
-      go true e false f = rw (e, f)
-      go false e true f = rw (e, e, f)
-      go false e false f = rw (e, e, f)
-
-  places-law : (rs : Guide) (n : ℕ) → Fits (n + length rs)
-      → events (placesThen d notes s rs n rest) ≡ map Element (findingsFrom d notes s n (rowsIn rs)) ++ events rest
-  unfolding placesThen findingsFrom rowsIn events
-  places-law [] n h = surplus-law n
-  places-law (r ∷ rs) n h = go (isRow 1 r) (isRow 2 r) (places-law rs n (omega arith)) (places-law rs (n + 1) (omega arith))
-    where
-      go : (b c : Bool) → events (placesThen d notes s rs n rest) ≡ map Element (findingsFrom d notes s n (rowsIn rs)) ++ events rest
-          → events (placesThen d notes s rs (n + 1) rest) ≡ map Element (findingsFrom d notes s (n + 1) (rowsIn rs)) ++ events rest
-          → events (if b then surplusSlot d notes s n ∷ rest
-          else (if c then codesThen d notes s r rs n false (placesThen d notes s rs (bumped n) rest) else placesThen d notes s rs n rest))
-          ≡ map Element (findingsFrom d notes s n (if b then [] else (if c then rowIs r (codesIn rs) ∷ rowsIn rs else rowsIn rs))) ++ events rest
-      go true c here next = surplus-law n
-      go false true here next =
-          let row = rowIs r (codesIn rs) in
-          let fs = map (found n row) (placeCodes d notes s row n) in
-          codes-law r rs n (placesThen d notes s rs (bumped n) rest)
-          ∙ rw (bumped-low n (omega arith), next, map-append Element fs (findingsFrom d notes s (n + 1) (rowsIn rs)))
-          (sym (append-assoc (map Element fs) _ (events rest)))
-      go false false here next = here
-
--- 4. The note of a segment.
-note-law : (id : Bytes) (n own : ℕ) (p : Bool) (fs : List Finding) (places rest : Slots) → events places ≡ map Element fs ++ events rest
-    → lined id n (every ((p ⇒ own) ∷ (not (null fs) ⇒ 8) ∷ [])) ++ events (if not (null fs) then places else rest)
-    ≡ flat (noted id n (every ((p ⇒ own) ∷ (not (null fs) ⇒ 8) ∷ [])) fs) ++ events rest
+-- 3. The note of a segment.
+note-law : (id : Bytes) (n own : ℕ) (p : Bool) (fs : List Finding)
+    → lined id n (every ((p ⇒ own) ∷ (not (null fs) ⇒ 8) ∷ [])) ++ map Element fs
+    ≡ flat (noted id n (every ((p ⇒ own) ∷ (not (null fs) ⇒ 8) ∷ [])) fs)
 unfolding flat every
-note-law id n own true [] places rest h = refl
-note-law id n own false [] places rest h = refl
-note-law id n own true (f ∷ fs) places rest h = rw (append-nil (map Element fs)) (ap (λ (l : List Event). Line id n (own ∷ 8 ∷ []) ∷ l) h)
-note-law id n own false (f ∷ fs) places rest h = rw (append-nil (map Element fs)) (ap (λ (l : List Event). Line id n (8 ∷ []) ∷ l) h)
+note-law id n own true [] = refl
+note-law id n own false [] = refl
+note-law id n own true (f ∷ fs) = rw append-nil
+note-law id n own false (f ∷ fs) = rw append-nil
 
-module _ (d : Delimiters) (ids : List (List ℕ)) (rows : Guide) (closed : Bool) (small : Small (length rows)) where
-  segment-law : (own check n : ℕ) (s : Segment) (rest : Slots) → check < length rows
-      → events (segmentThen d ids rows closed own check n s rest)
-      ≡ flat (segmentNote n own (field s 0) (if isChecked own then findings d (entryAt rows check) s else [])) ++ events rest
-  unfolding segmentThen segmentNote events findings
-  segment-law own check n s rest h = go (isChecked own)
-    where
-      fs : List Finding
-      fs = findings d (entryAt rows check) s
+segment-law : (d : Delimiters) (rows : Guide) (own check n : ℕ) (s : Segment)
+    → segmentEvents d rows own check n s ≡ flat (segmentNote n own (field s 0) (checked d rows own check s))
+unfolding segmentEvents segmentNote
+segment-law d rows own check n s = note-law (echoed (field s 0)) n own (not (eqb own 0)) (checked d rows own check s)
 
-      places : Slots
-      places = placesThen d (entryAt rows check .notes) s (drop (bumped check) rows) 1 rest
-
-      placed : events places ≡ map Element fs ++ events rest
-      placed =
-          rw (bumped-low check (omega arith))
-          (places-law d (entryAt rows check .notes) s rest (drop (check + 1) rows) 1 (simp length-drop (omega arith)))
-
-      go : (b : Bool) → lined (echoed (field s 0)) n (codesOf own (b && not (null fs))) ++ events (if b && not (null fs) then places else rest)
-          ≡ flat (segmentNote n own (field s 0) (if b then fs else [])) ++ events rest
-      go true = note-law (echoed (field s 0)) n own (not (eqb own 0)) fs places rest placed
-      go false = note-law (echoed (field s 0)) n own (not (eqb own 0)) [] rest rest refl
-
--- 5. How a segment stands.
+-- 4. How a segment stands.
 -- the present entry in the terms of document 01
 abbrev presentAt : Guide → Present → law.Present
 presentAt rows p = record { index = indexAt (p .row) rows; used = p .used }
@@ -342,7 +268,7 @@ module _ (ids : List (List ℕ)) (rows : Guide) (p : Present) (h : isRow 1 (getD
           (rw (m, r .0, zero-add) (s .0), s .1)
       go true m false q = (rw (m, index-none id rows 0 (omega (arith, at, ltb-false k (length rows) q))), tt)
 
--- 6. One segment of the walk.
+-- 5. One segment of the walk.
 module _ (d : Delimiters) (ids : List (List ℕ)) (rows : Guide) (closed : Bool) (small : Small (length rows))
     (bytes : all hasByteId rows ≡ true) (p : Present) (h : isRow 1 (getD rows (p .row) []) ≡ true) (few : Fits (p .used)) where
   moved-law : (st : Standing) → law.moved (presentAt rows p) (means rows p st) ≡ presentAt rows (presentOf st p)
@@ -364,21 +290,20 @@ module _ (d : Delimiters) (ids : List (List ℕ)) (rows : Guide) (closed : Bool)
     abbrev skippedBy : Standing → List Entry
     skippedBy st = law.skipped (tableOf ids rows) (presentAt rows p) (means rows p st)
 
-    later-law : (k : ℕ) → Apt rows p (Later k) → (l : Slots)
-        → events (missingThen n (slice (bumped (p .row)) k rows) l) ≡ flat (missing n (skippedBy (Later k))) ++ events l
+    later-law : (k : ℕ) → Apt rows p (Later k) → missingIn n (slice (bumped (p .row)) k rows) ≡ flat (missing n (skippedBy (Later k)))
     unfolding tableOf
-    later-law k a l =
+    later-law k a =
         let in-rows = row-in rows (p .row) h in
-        rw (bumped-low (p .row) (omega arith), ← index-next rows (p .row) h) (passed-law n l rows (p .row + 1) k (omega arith) bytes)
+        rw (bumped-low (p .row) (omega arith), ← index-next rows (p .row) h) (passed-law n rows (p .row + 1) k (omega arith) bytes)
 
-    skip-law : (st : Standing) → Apt rows p st → (l : Slots)
-        → events (missingThen n (slice (passingOf st p) (presentOf st p .row) rows) l) ≡ flat (missing n (skippedBy st)) ++ events l
-    unfolding missingThen missing keep flat
-    skip-law Unknown a l = rw (slice-empty (p .row) rows)
-    skip-law Unlisted a l = rw (slice-empty (p .row) rows)
-    skip-law (Before k) a l = rw (slice-empty (p .row) rows)
-    skip-law Again a l = rw (slice-empty (p .row) rows)
-    skip-law (Later k) a l = later-law k a l
+    skip-law : (st : Standing) → Apt rows p st
+        → missingIn n (slice (passingOf st p) (presentOf st p .row) rows) ≡ flat (missing n (skippedBy st))
+    unfolding missingIn missing keep flat
+    skip-law Unknown a = rw (slice-empty (p .row) rows)
+    skip-law Unlisted a = rw (slice-empty (p .row) rows)
+    skip-law (Before k) a = rw (slice-empty (p .row) rows)
+    skip-law Again a = rw (slice-empty (p .row) rows)
+    skip-law (Later k) a = later-law k a
 
     -- after the last segment
     trailer-law : (st : Standing) → Apt rows p st → events (trailerSlots d ids rows closed p n st) ≡ flat (missing n (skippedBy st))
@@ -387,31 +312,30 @@ module _ (d : Delimiters) (ids : List (List ℕ)) (rows : Guide) (closed : Bool)
     trailer-law Unlisted a = refl
     trailer-law (Before k) a = refl
     trailer-law Again a = refl
-    trailer-law (Later k) a = later-law k a [] ∙ append-nil _
+    trailer-law (Later k) a = append-nil _ ∙ later-law k a
 
-    module _ (s : Segment) (rest : Slots) where
-      abbrev told : ℕ → ℕ → Slots
-      told own check = segmentThen d ids rows closed own check n s rest
+  -- what is found in its elements
+  module _ (s : Segment) where
+    abbrev Finds : ℕ → Standing → Type 0
+    Finds own st = checked d rows own (checkOf st p) s ≡ findingsBy d (tableOf ids rows) (means rows p st) s
 
-      abbrev notedBy : ℕ → List Finding → List Event
-      notedBy own fs = flat (segmentNote n own (field s 0) fs) ++ events rest
+    own-law : (st : Standing) → law.ownCode (tableOf ids rows) (presentAt rows p) (means rows p st) ≡ ownOf rows st p
+    own-law Unknown = refl
+    own-law Unlisted = refl
+    own-law (Before k) = refl
+    own-law Again = rw (bumped-low (p .used) few, entry-here rows (p .row) h ids)
+    own-law (Later k) = refl
 
-      checked : (own k : ℕ) → isChecked own ≡ true → isRow 1 (getD rows k []) ≡ true
-          → events (told own k) ≡ notedBy own (findings d (law.entryAt (tableOf ids rows) (indexAt k rows)) s)
-      checked own k c f = rw (entry-here rows k f ids) (rw c at (segment-law d ids rows closed small own k n s rest (row-in rows k f)))
-
-      own-law : (st : Standing) → Apt rows p st
-          → events (told (ownOf rows st p) (checkOf st p))
-          ≡ notedBy (law.ownCode (tableOf ids rows) (presentAt rows p) (means rows p st)) (findingsBy d (tableOf ids rows) (means rows p st) s)
-      own-law Unknown a = segment-law d ids rows closed small 1 (p .row) n s rest (row-in rows (p .row) h)
-      own-law Unlisted a = segment-law d ids rows closed small 6 (p .row) n s rest (row-in rows (p .row) h)
-      own-law (Before k) a = checked 7 k refl a
-      own-law Again a = rw (bumped-low (p .used) few, entry-here rows (p .row) h ids) (go (ltb (column (getD rows (p .row) []) 5) (p .used + 1)))
-        where
-          go : (b : Bool) → events (told (if b then 5 else 0) (p .row)) ≡ notedBy (if b then 5 else 0) (findings d (entryAt rows (p .row)) s)
-          go true = segment-law d ids rows closed small 5 (p .row) n s rest (row-in rows (p .row) h)
-          go false = segment-law d ids rows closed small 0 (p .row) n s rest (row-in rows (p .row) h)
-      own-law (Later k) a = checked 0 k refl (a .0)
+    checked-law : (st : Standing) → Apt rows p st → Finds (ownOf rows st p) st
+    checked-law Unknown a = refl
+    checked-law Unlisted a = refl
+    checked-law (Before k) a = rw (entry-here rows k a ids)
+    checked-law Again a = rw (entry-here rows (p .row) h ids) (go (ltb (column (getD rows (p .row) []) 5) (bumped (p .used))))
+      where
+        go : (b : Bool) → checked d rows (if b then 5 else 0) (p .row) s ≡ findings d (entryAt rows (p .row)) s
+        go true = refl
+        go false = refl
+    checked-law (Later k) a = rw (entry-here rows k (a .0) ids)
 
 used-low : (p : Present) (n : ℕ) (st : Standing) → Fits (p .used + suc n) → Fits (presentOf st p .used + n)
 used-low p n Unknown h = omega arith
@@ -420,10 +344,10 @@ used-low p n (Before k) h = omega arith
 used-low p n Again h = rw (bumped-low (p .used) (omega arith)) (omega arith)
 used-low p n (Later k) h = omega arith
 
-three : (a b c : List Note) (x y z : List Event) → x ≡ flat a ++ y → y ≡ flat b ++ z → z ≡ flat c → x ≡ flat (a ++ b ++ c)
-three a b c x y z p q r = rw (p, q, r, flat-append (a ++ b) c, flat-append a b) (sym (append-assoc (flat a) (flat b) (flat c)))
+three : (a b c : List Note) (x y z : List Event) → x ≡ flat a → y ≡ flat b → z ≡ flat c → (x ++ y) ++ z ≡ flat (a ++ b ++ c)
+three a b c x y z p q r = rw (p, q, r, flat-append (a ++ b) c, flat-append a b)
 
--- 7. The walk.
+-- 6. The walk.
 module _ (d : Delimiters) (ids : List (List ℕ)) (rows : Guide) (closed : Bool) (small : Small (length rows))
     (bytes : all hasByteId rows ≡ true) where
   abbrev table : Table
@@ -432,7 +356,7 @@ module _ (d : Delimiters) (ids : List (List ℕ)) (rows : Guide) (closed : Bool)
   walk-law : (ss : List Segment) (p : Present) (n : ℕ) → isRow 1 (getD rows (p .row) []) ≡ true
       → Fits (p .used + length ss) → Fits (n + length ss)
       → events (walkSlots d ids rows closed p n ss) ≡ flat (walk d table closed (presentAt rows p) n ss)
-  unfolding walkSlots walk events flat
+  unfolding walkSlots walk events flat outcome
   walk-law [] p n h few low = go closed
     where
       se : Standing
@@ -455,11 +379,12 @@ module _ (d : Delimiters) (ids : List (List ℕ)) (rows : Guide) (closed : Bool)
       rw (moved-law d ids rows closed small bytes p h (omega arith) st, bumped-low n (omega arith))
       (walk-law ss (presentOf st p) (n + 1) (entry-stays d ids rows closed small bytes p h (omega arith) st (o .1))
       (used-low p (length ss) st few) (omega arith)) in
+      let own : segmentEvents d rows (ownOf rows st p) (checkOf st p) n s ≡ flat (segmentNote n (law.ownCode table before now) id (findingsBy d table now s)) =
+      rw (own-law d ids rows closed small bytes p h (omega arith) s st, ← checked-law d ids rows closed small bytes p h (omega arith) s st (o .1))
+      (segment-law d rows (ownOf rows st p) (checkOf st p) n s) in
       rw (o .0)
       (three (missing n (law.skipped table before now)) (segmentNote n (law.ownCode table before now) id (findingsBy d table now s)) _ _ _ (events rest)
-      (skip-law d ids rows closed small bytes p h (omega arith) n st (o .1) _)
-      (own-law d ids rows closed small bytes p h (omega arith) n s rest st (o .1))
-      later)
+      (skip-law d ids rows closed small bytes p h (omega arith) n st (o .1)) own later)
 
 pieces-few : (t : ℕ) (s : Bytes) → length (pieces t s) ≤ length s
 unfolding pieces
@@ -479,14 +404,13 @@ segments-few d s = simp length-map (pieces-few (d .terminator) s)
 pub walk-notes : (set : Bytes) (d : Delimiters) (ids : List (List ℕ)) (rows : Guide) (closed : Bool)
     → Limits rows → Small (length set) → {header : Segment} {after : List Segment} → segments d set ≡ header ∷ after
     → events (remaining set d ids rows closed start) ≡ flat (notesOf d (tableOf ids rows) closed header after)
-unfolding remaining start setSlots notesOf idsAreBytes events indexAt
+unfolding remaining start setSlots notesOf idsAreBytes events missingIn indexAt
 walk-notes set d ids rows closed limits short {header} {after} e =
     let fewer = segments-few d set in
     let few : length after < length set = omega (arith, ap length e) in
     let first = row-in rows 0 (limits .begins) in
     let size = limits .few in
     let note = segmentNote 1 0 (field header 0) (findings d (entryAt rows 0) header) in
-    let onward = walkSlots d ids rows closed (record { row = 0; used = 1 }) 2 after in
-    let told = segment-law d ids rows closed (omega arith) 0 0 1 header onward first in
+    let told = segment-law d rows 0 0 1 header in
     let rest = walk-law d ids rows closed (omega arith) (limits .ids) after (record { row = 0; used = 1 }) 2 (limits .begins) (omega arith) (omega arith) in
-    rw (e, entry-here rows 0 (limits .begins) ids) (told ∙ rw rest (sym (flat-append note _)))
+    rw (e, entry-here rows 0 (limits .begins) ids, told, rest) (sym (flat-append note _))

@@ -15,43 +15,41 @@ use Rattle.text.specs.Text.{indexWhere}
 use Rattle.tables.specs.Reading.{Guide, nextMandatory, isMandatoryRow, idAt, idBytes}
 use Rattle.findings.specs.Events.{Event, Line}
 use Rattle.findings.specs.Steps.{nextMissing}
-use Rattle.findings.specs.Remaining.{Slots, missingThen}
+use Rattle.findings.specs.Remaining.{missingIn}
 use Rattle.findings.specs.declared.Missing.{Missing}
 use Rattle.findings.specs.declared.Missing.the-variants.{Row, Nothing}
 
 -- The mandatory rows of a list, one by one.
 -- what is told of the next one; then those after it
-abbrev pub missedBy : ℕ → Slots → Guide → ℕ → Missing → Slots
-missedBy n rest rows e (Row m) = (Line (idBytes (idAt rows m)) n (3 ∷ []) ∷ []) ∷ missingThen n (slice (m + 1) e rows) rest
-missedBy n rest rows e Nothing = rest
+abbrev pub missedBy : ℕ → Guide → ℕ → Missing → List Event
+missedBy n rows e (Row m) = Line (idBytes (idAt rows m)) n (3 ∷ []) ∷ missingIn n (slice (m + 1) e rows)
+missedBy n rows e Nothing = []
 
-module _ (n : ℕ) (rest : Slots) where
+module _ (n : ℕ) where
   -- what is told of a row that is missing
-  abbrev absentSlot : List ℕ → List Event
-  absentSlot r = Line (idBytes (idAt (r ∷ []) 0)) n (3 ∷ []) ∷ []
+  abbrev absent : List ℕ → Event
+  absent r = Line (idBytes (idAt (r ∷ []) 0)) n (3 ∷ [])
 
-  miss-end : (xs : Guide) → length xs ≤ indexWhere isMandatoryRow xs → missingThen n xs rest ≡ rest
-  unfolding missingThen indexWhere
+  miss-end : (xs : Guide) → length xs ≤ indexWhere isMandatoryRow xs → missingIn n xs ≡ []
+  unfolding missingIn indexWhere
   miss-end [] h = refl
   miss-end (x ∷ xs) h = go (isMandatoryRow x) h (miss-end xs)
     where
       go : (b : Bool) → suc (length xs) ≤ (if b then 0 else suc (indexWhere isMandatoryRow xs))
-          → (length xs ≤ indexWhere isMandatoryRow xs → missingThen n xs rest ≡ rest)
-          → (if b then absentSlot x ∷ missingThen n xs rest else missingThen n xs rest) ≡ rest
+          → (length xs ≤ indexWhere isMandatoryRow xs → missingIn n xs ≡ [])
+          → (if b then absent x ∷ missingIn n xs else missingIn n xs) ≡ []
       go true k ih = absurd (not-suc-le-zero k)
       go false k ih = ih (le-of-suc-le-suc k)
 
   miss-step : (xs : Guide) (i : ℕ) → i ≡ indexWhere isMandatoryRow xs → i < length xs
-      → missingThen n xs rest ≡ absentSlot (getD xs i []) ∷ missingThen n (drop (suc i) xs) rest
-  unfolding missingThen indexWhere
+      → missingIn n xs ≡ absent (getD xs i []) ∷ missingIn n (drop (suc i) xs)
+  unfolding missingIn indexWhere
   miss-step [] i e h = absurd (not-suc-le-zero h)
   miss-step (x ∷ xs) i e h = go (isMandatoryRow x) i e h (miss-step xs)
     where
       go : (b : Bool) (i : ℕ) → i ≡ (if b then 0 else suc (indexWhere isMandatoryRow xs)) → i < suc (length xs)
-          → ((j : ℕ) → j ≡ indexWhere isMandatoryRow xs → j < length xs
-          → missingThen n xs rest ≡ absentSlot (getD xs j []) ∷ missingThen n (drop (suc j) xs) rest)
-          → (if b then absentSlot x ∷ missingThen n xs rest else missingThen n xs rest)
-          ≡ absentSlot (getD (x ∷ xs) i []) ∷ missingThen n (drop i xs) rest
+          → ((j : ℕ) → j ≡ indexWhere isMandatoryRow xs → j < length xs → missingIn n xs ≡ absent (getD xs j []) ∷ missingIn n (drop (suc j) xs))
+          → (if b then absent x ∷ missingIn n xs else missingIn n xs) ≡ absent (getD (x ∷ xs) i []) ∷ missingIn n (drop i xs)
       go true zero q k ih = refl
       go true (suc i) q k ih = absurd (omega arith)
       go false zero q k ih = absurd (omega arith)
@@ -73,10 +71,10 @@ module _ (n : ℕ) (rest : Slots) where
     size : length (slice k e rows) ≡ min e (length rows) - k
     size = rw (length-drop, length-take)
 
-    none : ltb m e && ltb m (length rows) ≡ false → missingThen n (slice k e rows) rest ≡ rest
+    none : ltb m e && ltb m (length rows) ≡ false → missingIn n (slice k e rows) ≡ []
     none h = go (ltb i (length (slice k e rows))) refl
       where
-        go : (b : Bool) → ltb i (length (slice k e rows)) ≡ b → missingThen n (slice k e rows) rest ≡ rest
+        go : (b : Bool) → ltb i (length (slice k e rows)) ≡ b → missingIn n (slice k e rows) ≡ []
         go true l =
             let j = ltb-true i (length (slice k e rows)) l in
             let low : m < e = omega (arith, at, size) in
@@ -84,7 +82,7 @@ module _ (n : ℕ) (rest : Slots) where
             absurd (true≢false (rw (lt-ltb m e low, lt-ltb m (length rows) some) at h))
         go false l = miss-end (slice k e rows) (ltb-false i (length (slice k e rows)) l)
 
-    next : ltb m e && ltb m (length rows) ≡ true → missingThen n (slice k e rows) rest ≡ missedBy n rest rows e (Row m)
+    next : ltb m e && ltb m (length rows) ≡ true → missingIn n (slice k e rows) ≡ missedBy n rows e (Row m)
     unfolding idAt
     next h =
         let low = ltb-true m e (and-left (ltb m e) (ltb m (length rows)) h) in
@@ -94,12 +92,12 @@ module _ (n : ℕ) (rest : Slots) where
         let u = rw (drop-drop, q, getD-drop, ← at) at r in
         rw getD-take at u
 
-    pub miss-law : missingThen n (slice k e rows) rest ≡ missedBy n rest rows e (nextMissing rows k e)
+    pub miss-law : missingIn n (slice k e rows) ≡ missedBy n rows e (nextMissing rows k e)
     unfolding nextMissing
     miss-law = go (ltb m e && ltb m (length rows)) refl
       where
         go : (b : Bool) → ltb m e && ltb m (length rows) ≡ b
-            → missingThen n (slice k e rows) rest ≡ missedBy n rest rows e (if b then Row m else Nothing)
+            → missingIn n (slice k e rows) ≡ missedBy n rows e (if b then Row m else Nothing)
         go true h = next h
         go false h = none h
 

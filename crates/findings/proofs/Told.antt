@@ -1,7 +1,7 @@
--- What those who follow a walk use: each step's outcome as an event, and the events as the segments of a response.
+-- What those who follow a walk use: each step's outcome as events, and the events as the segments of a response.
 use mathlib.Core.Path.{_≡_, refl, ap, _∙_}
 use mathlib.Core.Bool.{Bool}
-use mathlib.Core.List.{List, [], _∷_, _++_, map, map-append}
+use mathlib.Core.List.{List, [], _∷_, _++_, map, map-append, append-nil}
 use Prim.Native.Nat.{ℕ, _<_}
 use native.Mathlib.Omega.{arith}
 use lib.ListN.{length}
@@ -12,62 +12,42 @@ use Rattle.rules.specs.Response.{ak3, ak3s, ak4}
 use Rattle.rules.specs.declared.Delimiters.{Delimiters}
 use Rattle.rules.specs.declared.Finding.{Finding}
 use Rattle.tables.specs.Reading.{Guide}
-use Rattle.findings.specs.Events.{Event, Line, Element, flat, written}
+use Rattle.findings.specs.Events.{Event, Element, flat, written}
 use Rattle.findings.specs.Steps.{step}
-use Rattle.findings.specs.Remaining.{Slots, events, remaining, lineEvent, said}
+use Rattle.findings.specs.Remaining.{events, passedEvents, takenEvents, remaining, said}
+use Rattle.findings.specs.declared.Passed.{Passed}
+use Rattle.findings.specs.declared.Taken.{Taken}
 use Rattle.findings.specs.declared.Walk.{Walk}
-use Rattle.findings.specs.declared.Line as line
-use Rattle.findings.specs.declared.Step.the-variants.{Quiet, Done}
+use Rattle.findings.specs.declared.Step.{Step}
 use Rattle.findings.specs.declared.Step.the-variants as tell
 use Rattle.findings.proofs.Stepped.{step-law}
 
--- 1. A slot and those after it.
-pub events-nil : events [] ≡ []
-unfolding events
-events-nil = refl
+-- 1. What is told by a step.
+module _ (set : Bytes) (d : Delimiters) (ids : List (List ℕ)) (rows : Guide) (closed : Bool) (w : Walk) where
+  abbrev left : Walk → List Event
+  left v = events (remaining set d ids rows closed v)
 
-pub events-cons : (told : List Event) (more : Slots) → events (told ∷ more) ≡ told ++ events more
-unfolding events
-events-cons told more = refl
+  slots : {s : Step} → step set d ids rows closed w ≡ s → remaining set d ids rows closed w ≡ said set d ids rows closed s
+  slots e = step-law set d ids rows closed w ∙ ap (said set d ids rows closed) e
 
--- 2. What is told of a walk on the way from w to v, and how far it has come.
-pub record Tells (set : Bytes) (d : Delimiters) (ids : List (List ℕ)) (rows : Guide) (closed : Bool) (w v : Walk) (told : List Event) : Type 0 where
-  pub slots : remaining set d ids rows closed w ≡ told ∷ remaining set d ids rows closed v
-  pub tells : events (remaining set d ids rows closed w) ≡ told ++ events (remaining set d ids rows closed v)
-  pub fewer : length (remaining set d ids rows closed v) < length (remaining set d ids rows closed w)
+  pub step-segment : {t : Taken} {v : Walk} → step set d ids rows closed w ≡ tell.Segment t v → left w ≡ takenEvents d rows set t ++ left v
+  unfolding events
+  step-segment e = ap events (slots e)
 
-pub record Ends (set : Bytes) (d : Delimiters) (ids : List (List ℕ)) (rows : Guide) (closed : Bool) (w : Walk) : Type 0 where
-  pub slots : remaining set d ids rows closed w ≡ []
-  pub tells : events (remaining set d ids rows closed w) ≡ []
+  pub step-fewer : {t : Taken} {v : Walk} → step set d ids rows closed w ≡ tell.Segment t v
+      → length (remaining set d ids rows closed v) < length (remaining set d ids rows closed w)
+  step-fewer e = omega (arith, ap length (slots e))
 
-module _ {set : Bytes} {d : Delimiters} {ids : List (List ℕ)} {rows : Guide} {closed : Bool} {w : Walk} where
-  slot-tells : {v : Walk} {told : List Event} → remaining set d ids rows closed w ≡ told ∷ remaining set d ids rows closed v
-      → Tells set d ids rows closed w v told
-  slot-tells {v} {told} q =
-      record {
-        slots = q;
-        tells = ap events q ∙ events-cons told (remaining set d ids rows closed v);
-        fewer = omega (arith, ap length q);
-      }
+  pub step-trailer : {p : Passed} → step set d ids rows closed w ≡ tell.Trailer p → left w ≡ passedEvents rows p
+  unfolding events
+  step-trailer {p} e = ap events (slots e) ∙ append-nil (passedEvents rows p)
 
-  -- the step's outcome
-  pub step-quiet : {v : Walk} → step set d ids rows closed w ≡ Quiet v → Tells set d ids rows closed w v []
-  step-quiet e = slot-tells (step-law set d ids rows closed w ∙ ap (said set d ids rows closed) e)
+  pub step-done : step set d ids rows closed w ≡ tell.Done → left w ≡ []
+  unfolding events
+  step-done e = ap events (slots e)
 
-  pub step-segment : {l : line.Line} {v : Walk} → step set d ids rows closed w ≡ tell.Segment l v
-      → Tells set d ids rows closed w v (lineEvent set d ids rows closed l ∷ [])
-  step-segment e = slot-tells (step-law set d ids rows closed w ∙ ap (said set d ids rows closed) e)
-
-  pub step-element : {f : Finding} {v : Walk} → step set d ids rows closed w ≡ tell.Element f v → Tells set d ids rows closed w v (Element f ∷ [])
-  step-element e = slot-tells (step-law set d ids rows closed w ∙ ap (said set d ids rows closed) e)
-
-  pub step-done : step set d ids rows closed w ≡ Done → Ends set d ids rows closed w
-  step-done e =
-      let q = step-law set d ids rows closed w ∙ ap (said set d ids rows closed) e in
-      record { slots = q; tells = ap events q ∙ events-nil }
-
--- 3. The events as segments.
-elements-written : (fs : List Finding) → map written (map Element fs) ≡ map ak4 fs
+-- 2. The events as segments.
+pub elements-written : (fs : List Finding) → map written (map Element fs) ≡ map ak4 fs
 elements-written [] = refl
 elements-written (f ∷ fs) = ap (λ (l : List Segment). ak4 f ∷ l) (elements-written fs)
 

@@ -1,32 +1,34 @@
 -- A look at the segment that the bytes begin with comes to what the segment's own bytes say, where the table has the valid bytes.
-use Prim.Native.Nat.{ℕ, zero, suc, _+_, _-_, _<_, _≤_}
+use Prim.Native.Nat.{ℕ, zero, suc, _+_, _-_, _<_, _≤_, suc-le-suc}
 use mathlib.Core.Path.{_≡_, refl, sym, ap, _∙_}
 use mathlib.Core.Bool.{Bool, true, false, _&&_, _||_, not, true≢false}
-use mathlib.Core.List.{List, [], _∷_}
+use mathlib.Core.List.{List, [], _∷_, _++_, map}
 use mathlib.Core.Option.{Option, none, some}
-use native.Mathlib.Nat.{le-of-suc-le-suc, not-suc-le-zero, zero-add}
+use native.Mathlib.Nat.{le-of-suc-le-suc, not-suc-le-zero, zero-lt-suc, zero-add}
 use native.Mathlib.Omega.{arith}
-use borrow.Author.Tests.{lt-ltb, le-ltb, ltb-true, ltb-false, le-leb, lt-leb, leb-true, eq-eqb, ne-eqb, eqb-true, eqb-false}
+use borrow.Author.Tests.{lt-ltb, le-ltb, ltb-true, ltb-false, le-leb, lt-leb, leb-true, leb-false, eq-eqb, ne-eqb, eqb-true, eqb-false, not-true}
 use lib.Dec.{eqb, ltb, leb}
 use lib.ListN.{length, getD, take, drop, length-drop}
 use lib.Seq.{length-take-le, take-take, getD-take, getD-drop}
-use Rattle.rules.specs.Base.{Bytes, null, any, between, if_then_else_}
+use Rattle.rules.specs.Base.{Bytes, null, all, any, between, _⇒_, every, if_then_else_}
 use Rattle.rules.specs.Cutting.{Segment, split, field, valid, marks}
-use Rattle.rules.specs.Elements.{elementCode, findings, findingsFrom}
-use Rattle.rules.specs.Tables.{Syntax}
+use Rattle.rules.specs.Elements.{elementCode, present, placeCodes, found, findings, findingsFrom}
+use Rattle.rules.specs.Tables.{Row, Syntax}
 use Rattle.rules.specs.declared.Delimiters.{Delimiters}
-use Rattle.text.specs.Text.{indexWhere, indexOf, nextWhere, invalid, part}
+use Rattle.rules.specs.declared.Finding.{Finding}
+use Rattle.rules.proofs.Logic.{and-right, or-left}
+use Rattle.text.specs.Text.{indexWhere, indexOf, nextWhere, part}
 use Rattle.text.proofs.Loops.{and-true, and-false, or-false, or-assoc}
 use Rattle.text.proofs.Where.{index-le, next-here}
-use Rattle.segments.proofs.Fields.{FieldAt, field-first, field-next, field-at}
+use Rattle.segments.proofs.Fields.{FieldAt, field-first, field-next, field-at, field-some, field-none}
 use Rattle.tables.specs.Rows.{isRow, rowIs, codesIn, rowsIn, syntaxIn}
 use Rattle.tables.specs.Reading.{Guide, entryAt, rowBelow}
 use Rattle.tables.proofs.Laws.{below-rest}
-use Rattle.elements.specs.Values.{takes}
+use Rattle.elements.specs.Values.{codeBy}
 use Rattle.elements.specs.Notes.{breaks, breaksFrom, breaksBefore}
-use Rattle.elements.specs.Places.{nextStart, endsField}
-use Rattle.elements.proofs.Codes.{takes-valid, takes-spoiled}
-use Rattle.elements.proofs.Places.{ValidTo, next-after, ends-within, next-field, next-valid, next-at, next-spoiled, clean-row, clean-skip, clean-end}
+use Rattle.elements.specs.Checks.{nextStart, fieldAfter}
+use Rattle.elements.proofs.Codes.{code-is}
+use Rattle.elements.proofs.Places.{after-order, after-within, next-field, next-at, place-codes}
 use Rattle.look.specs.Bytes.{validBytes, isOther}
 use Rattle.look.specs.Passing.{Stop, idEnd, startAfter, isOver, readRows, passedBy, passed}
 use Rattle.look.specs.declared.segment.Passed.{Passed}
@@ -136,13 +138,97 @@ module _ (d : Delimiters) (rest : Bytes) where
       let size : idEnd d rest - 0 ≡ idEnd d rest = omega arith in
       sym (rw size at (field-at {e = d .element} {s = take end rest} field-first id-cut) ∙ take-take (idEnd d rest) end rest id-before)
 
--- 3. The notes: one place more at which one of them may be broken.
-breaks-more : (s : Segment) (notes : List Syntax) (m count : ℕ) → breaksFrom s notes m (suc count) ≡ breaksFrom s notes m count || any (breaks s (m + count)) notes
+-- 3. The places of a segment.
+-- one place more at which a note may be broken
+breaks-more : (s : Segment) (notes : List Syntax) (m count : ℕ)
+    → breaksFrom s notes m (suc count) ≡ breaksFrom s notes m count || any (breaks (present s (m + count)) s (m + count)) notes
 unfolding breaksFrom
-breaks-more s notes m zero = let e : m + 0 ≡ m = omega arith in rw (e, or-false (any (breaks s m) notes))
+breaks-more s notes m zero = let e : m + 0 ≡ m = omega arith in rw (e, or-false (any (breaks (present s m) s m) notes))
 breaks-more s notes m (suc count) =
     let e : m + 1 + count ≡ m + suc count = omega arith in
-    rw (breaks-more s notes (m + 1) count, e) (sym (or-assoc (any (breaks s m) notes) _ _))
+    rw (breaks-more s notes (m + 1) count, e) (sym (or-assoc (any (breaks (present s m) s m) notes) _ _))
+
+-- the code of a value that has a byte which is not valid
+code-spoiled : (d : Delimiters) (r : Row) (e : Bytes) → all (valid d) e ≡ false → eqb (elementCode d r e) 0 ≡ false
+unfolding codeBy all
+code-spoiled d r [] h = absurd (true≢false h)
+code-spoiled d r (b ∷ e) h = rw (← code-is d r (b ∷ e), h)
+
+module _ (d : Delimiters) (notes : List Syntax) (s : Segment) where
+  -- a place has no code where its value has none and no note is broken there
+  place-null : (r : Row) (n : ℕ) → null (placeCodes d notes s r n) ≡ (eqb (elementCode d r (field s n)) 0 && not (any (breaks (present s n) s n) notes))
+  unfolding every
+  place-null r n = rw (place-codes notes s n d r) (go (eqb (elementCode d r (field s n)) 0) (any (breaks (present s n) s n) notes) (present s n))
+    where
+      own : ℕ
+      own = elementCode d r (field s n)
+
+      noted : Bool → Bool → ℕ
+      noted b present = if b then (if present then 10 else 2) else 0
+
+      go : (z b present : Bool) → null (every ((not z ⇒ own) ∷ (not (eqb (noted b present) 0) ⇒ noted b present) ∷ [])) ≡ z && not b
+      go true true true = refl
+      go true true false = refl
+      go true false present = refl
+      go false b present = refl
+
+  -- no finding is left from place n on by these rows
+  abbrev silentBy : ℕ → List Row → Bool
+  silentBy n rs = null (findingsFrom d notes s n rs)
+
+  silent-row : (r : Row) (rs : List Row) (n : ℕ) {good : Bool} → good ≡ eqb (elementCode d r (field s n)) 0
+      → silentBy n (r ∷ rs) ≡ (good && not (any (breaks (present s n) s n) notes)) && silentBy (n + 1) rs
+  unfolding findingsFrom
+  silent-row r rs n p = rw (p, ← place-null r n) (go (placeCodes d notes s r n))
+    where
+      go : (codes : List ℕ) → null (map (found n r) codes ++ findingsFrom d notes s (n + 1) rs) ≡ null codes && silentBy (n + 1) rs
+      go [] = refl
+      go (c ∷ codes) = refl
+
+-- after the rows no field is left
+silent-end : (d : Delimiters) (notes : List Syntax) {e : ℕ} {s : Bytes} {n : ℕ} (end : ℕ) → FieldAt e s n (end + 1)
+    → silentBy d notes (split e s) n [] ≡ leb (length s) end
+unfolding findingsFrom
+silent-end d notes {e} {s} {n} end f = go (leb (length s) end) refl
+  where
+    go : (b : Bool) → leb (length s) end ≡ b
+        → null {A = Finding} (if ltb n (length (split e s)) then record { place = n; reference = 0; code = 3 } ∷ [] else []) ≡ b
+    go true h = let l : length s ≤ end = leb-true (length s) end h in rw (le-ltb n (length (split e s)) (field-none f (omega arith)))
+    go false h = let l : end < length s = leb-false (length s) end h in rw (lt-ltb n (length (split e s)) (field-some f (omega arith)))
+
+-- valid bytes and then a separator, or the end
+module _ (d : Delimiters) where
+  -- a valid byte is no separator
+  valid-free : (b : ℕ) → valid d b ≡ true → eqb b (d .element) ≡ false
+  unfolding valid marks any
+  valid-free b e =
+      let others = eqb b (d .component) || (eqb b (d .terminator) || false) in
+      or-left (eqb b (d .element)) others (not-true (eqb b (d .element) || others) (and-right (between 32 126 b) (not (eqb b (d .element) || others)) e))
+
+  -- how many bytes come before the first that is not valid: as many as the field has, or fewer
+  abbrev stop : Bytes → ℕ
+  stop xs = indexWhere (λ b. not (valid d b)) xs
+
+  abbrev Stops : Bool → ℕ → ℕ → Type 0
+  Stops true i j = i ≡ j
+  Stops false i j = i < j
+
+  stops-more : (b : Bool) (i j : ℕ) → Stops b i j → Stops b (suc i) (suc j)
+  stops-more true i j h = ap suc h
+  stops-more false i j h = suc-le-suc h
+
+  stop-by : (xs : Bytes) → Stops (all (valid d) (take (indexOf (d .element) xs) xs)) (stop xs) (indexOf (d .element) xs)
+  unfolding indexWhere all
+  stop-by [] = refl
+  stop-by (x ∷ xs) = go (eqb x (d .element)) refl (valid d x) refl (stop-by xs)
+    where
+      go : (a : Bool) → eqb x (d .element) ≡ a → (b : Bool) → valid d x ≡ b
+          → Stops (all (valid d) (take (indexOf (d .element) xs) xs)) (stop xs) (indexOf (d .element) xs)
+          → (let i = if a then 0 else suc (indexOf (d .element) xs) in Stops (all (valid d) (take i (x ∷ xs))) (stop (x ∷ xs)) i)
+      go true p true q f = absurd (true≢false (sym p ∙ valid-free x q))
+      go true p false q f = rw q
+      go false p true q f = rw q (stops-more (all (valid d) (take (indexOf (d .element) xs) xs)) (stop xs) (indexOf (d .element) xs) f)
+      go false p false q f = rw q (zero-lt-suc (indexOf (d .element) xs))
 
 -- 4. The fields after the id: the bytes up to the terminator are the segment's, and those of its fields are valid.
 module _ (d : Delimiters) (apart : eqb (d .element) (d .terminator) ≡ false) (rest : Bytes) where
@@ -188,44 +274,35 @@ module _ (d : Delimiters) (apart : eqb (d .element) (d .terminator) ≡ false) (
       go true e = other-mark (getD rest last 0) (index-hit (λ x. eqb x (d .terminator)) rest (ltb-true _ _ e))
       go false e = refl
 
-  -- the fields before place n end at `end`, where a separator or the terminator stands
+  -- the fields before place n end at `end`, where a separator stands or the segment ends
   record Come (n end : ℕ) : Type 0 where
     pub at : FieldAt (d .element) bytes n (end + 1)
     pub within : end ≤ length bytes
-    pub ends : endsField (d .element) bytes end ≡ true
+    pub ends : end < length bytes → getD bytes end 0 ≡ d .element
+
+  -- a separator that is found stands there
+  separator : (xs : Bytes) → indexOf (d .element) xs < length xs → getD xs (indexOf (d .element) xs) 0 ≡ d .element
+  separator xs h = eqb-true (getD xs (indexOf (d .element) xs) 0) (d .element) (index-hit (λ x. eqb x (d .element)) xs h)
 
   -- before place 1 stands the id
   come-first : Come 1 (idEnd d rest)
-  unfolding endsField
   come-first = record {
     at = field-next field-first (id-cut d rest);
     within = omega (arith, size, id-before d rest);
-    ends = rw (id-cut d rest, zero-add) (index-stands (d .element) bytes);
+    ends = rw (id-cut d rest, zero-add) (separator bytes);
   }
 
   module _ {n end : ℕ} (c : Come n end) where
     -- it is before the terminator, and a separator stands there, or it is the end of the segment
     split-off : {X : Type 0} → (end < last → getD rest end 0 ≡ d .element → X) → (end ≡ last → X) → X
-    unfolding endsField
     split-off {X} f g = go (ltb end (length bytes)) refl
       where
         go : (b : Bool) → ltb end (length bytes) ≡ b → X
         go true e =
             let l = ltb-true end (length bytes) e in
             let h : end < last = omega (arith, size) in
-            f h (sym (inside end h) ∙ eqb-true (getD bytes end 0) (d .element) (rw e at (c .ends)))
+            f h (sym (inside end h) ∙ c .ends l)
         go false e = let l = ltb-false end (length bytes) e in g (omega (arith, size, c .within))
-
-    -- the next field starts where it starts in the segment's own bytes
-    begins-next : startAfter (d .element) rest end ≡ nextStart bytes end
-    unfolding startAfter nextStart
-    begins-next = split-off more over
-      where
-        more : end < last → getD rest end 0 ≡ d .element → startAfter (d .element) rest end ≡ nextStart bytes end
-        more h e = rw (lt-ltb end (length rest) (omega (arith, last-within)), eq-eqb (getD rest end 0) (d .element) e, lt-ltb end (length bytes) (omega (arith, size)))
-
-        over : end ≡ last → startAfter (d .element) rest end ≡ nextStart bytes end
-        over h = rw (h, no-separator, le-ltb last (length bytes) (omega (arith, size)))
 
     -- the segment ends there where no byte of it is left
     over-is : isOver (d .terminator) rest end ≡ leb (length bytes) end
@@ -238,35 +315,73 @@ module _ (d : Delimiters) (apart : eqb (d .element) (d .terminator) ≡ false) (
         over : end ≡ last → isOver (d .terminator) rest end ≡ leb (length bytes) end
         over h = rw (h, index-stands (d .terminator) rest) (sym (le-leb (length bytes) last (omega (arith, size))))
 
-    -- where the next field starts, and where its valid bytes end: the same in all bytes and in those of the segment
+    -- where the next field lies in the segment's own bytes
+    abbrev from : ℕ
+    from = fieldAfter (d .element) bytes end .start
+
+    abbrev to : ℕ
+    to = fieldAfter (d .element) bytes end .end
+
     abbrev start : ℕ
     start = startAfter (d .element) rest end
 
     abbrev next : ℕ
     next = nextWhere (isOther (validBytes d)) rest start
 
-    start-within : start ≤ last
-    unfolding nextStart
-    start-within =
-        split-off (λ h e. rw (begins-next, lt-ltb end (length bytes) (omega (arith, size))) (omega arith))
-        (λ h. rw (begins-next, le-ltb end (length bytes) (omega (arith, size))) (omega arith))
+    -- the look finds the same start
+    start-is : start ≡ from
+    unfolding fieldAfter startAfter nextStart
+    start-is = split-off more over
+      where
+        more : end < last → getD rest end 0 ≡ d .element → start ≡ from
+        more h e = rw (lt-ltb end (length rest) (omega (arith, last-within)), eq-eqb (getD rest end 0) (d .element) e, lt-ltb end (length bytes) (omega (arith, size)))
 
-    next-is : next ≡ nextWhere (invalid d) bytes start
+        over : end ≡ last → start ≡ from
+        over h = rw (h, no-separator, le-ltb last (length bytes) (omega (arith, size))) (sym size)
+
+    within : to ≤ last
+    within = omega (arith, size, after-within (d .element) bytes end refl)
+
+    order : from ≤ to
+    order = after-order (d .element) bytes end refl
+
+    -- the bytes of the segment from there on, and where its field ends among them
+    abbrev xs : Bytes
+    xs = drop (from) bytes
+
+    end-is : to ≡ from + indexOf (d .element) xs
+    unfolding fieldAfter
+    end-is = refl
+
+    next-is : next ≡ from + stop d xs
     next-is =
+        let begins : start ≤ last = omega (arith, start-is, within, order) in
         ap (λ (i : ℕ). start + i)
-        (sym (next-cut (isOther (validBytes d)) (λ x. eqb x (d .terminator)) mark-spoils start rest start-within)
-        ∙ index-same (isOther (validBytes d)) (invalid d) (λ x. rw (table-valid d x)) (drop start bytes))
+        (sym (next-cut (isOther (validBytes d)) (λ x. eqb x (d .terminator)) mark-spoils start rest begins)
+        ∙ index-same (isOther (validBytes d)) (λ b. not (valid d b)) (λ x. rw (table-valid d x)) (drop start bytes))
+        ∙ rw start-is
 
-    valid-to : ValidTo d bytes n end start next
-    valid-to = record { at = c .at; within = c .within; starts = begins-next; stops = next-is }
+    stops : Stops d (all (valid d) (field fields n)) (stop d xs) (indexOf (d .element) xs)
+    stops =
+        let l : to - from ≡ indexOf (d .element) xs = omega (arith, end-is) in
+        rw (next-field (c .at) (c .within), l) (stop-by d xs)
 
-    -- its bytes are the segment's
-    part-is : part rest start next ≡ part bytes start next
-    part-is = sym (part-cut (next - start) start last rest (omega (arith, size, next-after valid-to, ends-within valid-to)))
+    -- where its bytes are valid, the look goes on after it
+    module _ (e : all (valid d) (field fields n) ≡ true) where
+      whole : next ≡ to
+      whole = let q : stop d xs ≡ indexOf (d .element) xs = rw e at stops in omega (arith, next-is, end-is)
 
-    -- where it ends as a field does, the look goes on after it
-    come-next : endsField (d .element) bytes next ≡ true → Come (n + 1) next
-    come-next e = record { at = next-at valid-to e; within = ends-within valid-to; ends = e }
+      field-is : part rest start next ≡ field fields n
+      field-is =
+          rw (whole, start-is, next-field (c .at) (c .within))
+          (sym (part-cut (to - from) (from) last rest (omega (arith, within, order))))
+
+      come-next : Come (n + 1) next
+      come-next = rw whole (record {
+        at = next-at (c .at) (c .within);
+        within = after-within (d .element) bytes end refl;
+        ends = λ h. rw end-is (sym (getD-drop (from) bytes (indexOf (d .element) xs) 0) ∙ separator xs (omega (arith, end-is, length-drop (from) bytes)));
+      })
 
   -- 5. The rows of the entry.
   -- a byte stands there that is neither valid nor a separator nor the terminator: the look is stuck
@@ -304,7 +419,7 @@ module _ (d : Delimiters) (apart : eqb (d .element) (d .terminator) ≡ false) (
             by false p false q f = rw (read-skip (validBytes d) d rest (r ∷ rs) 0 n end (omega arith) p q) (f n)
             by false p true q f =
                 rw (read-row (validBytes d) d rest (r ∷ rs) 0 n end (omega arith) p q, stays, next-here (isOther (validBytes d)) rest 0 end (s .within) (s .spoils))
-                (taken (takes (rowIs r (codesIn rs)) (part rest end end)))
+                (taken (eqb (codeBy true (rowIs r (codesIn rs)) (part rest end end)) 0))
               where
                 taken : (g : Bool)
                     → passedBy (validBytes d) d rest rows below (if g then readRows (validBytes d) d rest rs (n + 1) end else none) ≡ Faulty
@@ -313,7 +428,7 @@ module _ (d : Delimiters) (apart : eqb (d .element) (d .terminator) ≡ false) (
 
     -- no finding is left from place n on by these rows
     abbrev silent : Guide → ℕ → Bool
-    silent rs n = null (findingsFrom d notes fields n (rowsIn rs))
+    silent rs n = silentBy d notes fields n (rowsIn rs)
 
     -- the look comes to what the findings and the notes say
     abbrev Says : Guide → ℕ → ℕ → Type 0
@@ -323,7 +438,7 @@ module _ (d : Delimiters) (apart : eqb (d .element) (d .terminator) ≡ false) (
     -- after the last row
     come-end : (rs : Guide) (n end : ℕ) → Come n end → rowsIn rs ≡ [] → readRows (validBytes d) d rest rs n end ≡ some (record { place = n; end = end })
         → Says rs n end
-    come-end rs n end c p q = rw (q, over-is c, clean-end d notes (d .element) bytes n end (c .at) (rowsIn rs) p) (go (leb (length bytes) end) refl)
+    come-end rs n end c p q = rw (q, over-is c, p, silent-end d notes end (c .at)) (go (leb (length bytes) end) refl)
       where
         go : (b : Bool) → leb (length bytes) end ≡ b
             → (if b && not (breaksBefore n (split (d .element) (take end rest)) notes) then Clean end (nextWhere (isRow 1) rows below) else Faulty)
@@ -334,47 +449,37 @@ module _ (d : Delimiters) (apart : eqb (d .element) (d .terminator) ≡ false) (
             rw (m, and-true (not (breaksBefore n fields notes)))
         go false e = rw (and-false (not (breaksBefore n fields notes)))
 
-    -- the row of an element: its field ends at a separator or the terminator, or the look is stuck in it
+    -- the row of an element: the bytes of its field are valid, or the look is stuck in it
     module _ (r : List ℕ) (rs : Guide) (n end : ℕ) (some-place : 1 ≤ n) (c : Come n end) (no-segment : isRow 1 r ≡ false) (element : isRow 2 r ≡ true) where
+      abbrev row : Row
+      row = rowIs r (codesIn rs)
+
+      abbrev good : Bool
+      good = eqb (codeBy true row (part rest (start c) (next c))) 0
+
+      abbrev broken : Bool
+      broken = any (breaks (present fields n) fields n) notes
+
       -- what the row comes to
       read : come (r ∷ rs) n end
-          ≡ passedBy (validBytes d) d rest rows below
-          (if takes (rowIs r (codesIn rs)) (part rest (start c) (next c)) then readRows (validBytes d) d rest rs (n + 1) (next c) else none)
+          ≡ passedBy (validBytes d) d rest rows below (if good then readRows (validBytes d) d rest rs (n + 1) (next c) else none)
       read = ap (passedBy (validBytes d) d rest rows below) (read-row (validBytes d) d rest (r ∷ rs) 0 n end (omega arith) no-segment element)
 
-      -- where the field does not end as a field does, the look is stuck
-      stuck : endsField (d .element) bytes (next c) ≡ false → Stuck (next c)
-      unfolding endsField
-      stuck e = go (ltb (next c) (length bytes)) refl e
-        where
-          go : (b : Bool) → ltb (next c) (length bytes) ≡ b → (if b then eqb (getD bytes (next c) 0) (d .element) else true) ≡ false → Stuck (next c)
-          go false h q = absurd (true≢false q)
-          go true h q =
-              let l = ltb-true (next c) (length bytes) h in
-              let m : next c < last = omega (arith, size) in
-              record {
-                within = omega (arith, last-within);
-                spoils =
-                    rw (getD-drop (start c) rest (indexWhere (isOther (validBytes d)) (drop (start c) rest)) 0)
-                    at (index-hit (isOther (validBytes d)) (drop (start c) rest) (omega (arith, length-drop (start c) rest, last-within)));
-                apart-e = rw (inside (next c) m) at q;
-                apart-t = index-miss (λ x. eqb x (d .terminator)) rest (next c) m;
-              }
+      -- what is left to be found
+      left : {b : Bool} → b ≡ eqb (elementCode d row (field fields n)) 0 → silent (r ∷ rs) n ≡ (b && not broken) && silent rs (n + 1)
+      unfolding rowsIn
+      left q = rw (no-segment, element) (silent-row d notes fields row (rowsIn rs) n q)
 
-      -- where it does, the value and the rows after it decide
-      row-taken : endsField (d .element) bytes (next c) ≡ true → Says rs (n + 1) (next c) → Says (r ∷ rs) n end
+      -- where they are, the value and the rows after it decide
+      row-taken : all (valid d) (field fields n) ≡ true → Says rs (n + 1) (next c) → Says (r ∷ rs) n end
       row-taken e f =
-          let row = rowIs r (codesIn rs) in
-          let good = takes row (part rest (start c) (next c)) in
-          let broken = any (breaks fields n) notes in
-          let v = valid-to c in
-          let said : good ≡ eqb (elementCode d row (field fields n)) 0 =
-          ap (takes row) (part-is c) ∙ sym (takes-valid row d _ (next-valid v e)) ∙ ap (λ (x : Bytes). eqb (elementCode d row x) 0) (sym (next-field v e)) in
-          rw (read, clean-row d notes fields (r ∷ rs) 0 n element good said broken refl)
+          let code : codeBy true row (field fields n) ≡ elementCode d row (field fields n) = rw e at (code-is d row (field fields n)) in
+          let said : good ≡ eqb (elementCode d row (field fields n)) 0 = rw (field-is c e, code) in
+          rw (read, left said)
           (go good (readRows (validBytes d) d rest rs (n + 1) (next c)) (breaksBefore n fields notes) broken (silent rs (n + 1))
           (f ∙ ap (λ (b : Bool). if not b && silent rs (n + 1) then Clean last (nextWhere (isRow 1) rows below) else Faulty) broken-before))
         where
-          broken-before : breaksBefore (n + 1) fields notes ≡ breaksBefore n fields notes || any (breaks fields n) notes
+          broken-before : breaksBefore (n + 1) fields notes ≡ breaksBefore n fields notes || broken
           broken-before =
               let p : n + 1 - 1 ≡ suc (n - 1) = omega arith in
               let q : 1 + (n - 1) ≡ n = omega arith in
@@ -390,17 +495,29 @@ module _ (d : Delimiters) (apart : eqb (d .element) (d .terminator) ≡ false) (
           go false s true here left g = refl
           go false s false here left g = refl
 
-      -- where it does not, its value has a code
-      row-stuck : endsField (d .element) bytes (next c) ≡ false → Says (r ∷ rs) n end
+      -- where they are not, its value has a code, and the look is stuck
+      row-stuck : all (valid d) (field fields n) ≡ false → Says (r ∷ rs) n end
       row-stuck e =
-          let row = rowIs r (codesIn rs) in
-          let spoiled = takes-spoiled row d _ (next-spoiled (valid-to c) e) in
-          rw (read, clean-row d notes fields (r ∷ rs) 0 n element false (sym spoiled) (any (breaks fields n) notes) refl, and-false (not (breaksBefore n fields notes)))
-          (go (takes row (part rest (start c) (next c))))
+          rw (read, left (sym (code-spoiled d row (field fields n) e)), and-false (not (breaksBefore n fields notes))) (go good)
         where
+          stuck : Stuck (next c)
+          stuck =
+              let q : stop d (xs c) < indexOf (d .element) (xs c) = rw e at (stops c) in
+              let m : next c < last = omega (arith, next-is c, end-is c, within c) in
+              record {
+                within = omega (arith, last-within);
+                spoils =
+                    rw (getD-drop (start c) rest (indexWhere (isOther (validBytes d)) (drop (start c) rest)) 0)
+                    at (index-hit (isOther (validBytes d)) (drop (start c) rest) (omega (arith, length-drop (start c) rest, last-within)));
+                apart-e =
+                    rw (getD-drop (from c) bytes (stop d (xs c)) 0, ← next-is c, inside (next c) m)
+                    at (index-miss (λ x. eqb x (d .element)) (xs c) (stop d (xs c)) q);
+                apart-t = index-miss (λ x. eqb x (d .terminator)) rest (next c) m;
+              }
+
           go : (good : Bool)
               → passedBy (validBytes d) d rest rows below (if good then readRows (validBytes d) d rest rs (n + 1) (next c) else none) ≡ Faulty
-          go true = stuck-rows rs (n + 1) (next c) (stuck e)
+          go true = stuck-rows rs (n + 1) (next c) stuck
           go false = refl
 
     -- row by row
@@ -411,12 +528,12 @@ module _ (d : Delimiters) (apart : eqb (d .element) (d .terminator) ≡ false) (
       where
         by : (a : Bool) → isRow 1 r ≡ a → (b : Bool) → isRow 2 r ≡ b → ((m i : ℕ) → 1 ≤ m → Come m i → Says rs m i) → Says (r ∷ rs) n end
         by true p b q f = come-end (r ∷ rs) n end c (rw p) (read-stop (validBytes d) d rest (r ∷ rs) 0 n end p)
-        by false p false q f = rw (read-skip (validBytes d) d rest (r ∷ rs) 0 n end (omega arith) p q, clean-skip d notes fields (r ∷ rs) 0 n p q) (f n end h c)
-        by false p true q f = ends (endsField (d .element) bytes (next c)) refl
+        by false p false q f = rw (read-skip (validBytes d) d rest (r ∷ rs) 0 n end (omega arith) p q, p, q) (f n end h c)
+        by false p true q f = by-bytes (all (valid d) (field fields n)) refl
           where
-            ends : (b : Bool) → endsField (d .element) bytes (next c) ≡ b → Says (r ∷ rs) n end
-            ends true e = row-taken r rs n end h c p q e (f (n + 1) (next c) (omega arith) (come-next c e))
-            ends false e = row-stuck r rs n end h c p q e
+            by-bytes : (b : Bool) → all (valid d) (field fields n) ≡ b → Says (r ∷ rs) n end
+            by-bytes true e = row-taken r rs n end h c p q e (f (n + 1) (next c) (omega arith) (come-next c e))
+            by-bytes false e = row-stuck r rs n end h c p q e
 
 -- A look at a segment comes to what its findings are: it ends at the terminator and has none, or there is one.
 pub passed-law : (d : Delimiters) → eqb (d .element) (d .terminator) ≡ false → (rest : Bytes) (rows : Guide) (entry : ℕ)

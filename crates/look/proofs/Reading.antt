@@ -20,7 +20,7 @@ use Rattle.text.proofs.Where.{index-le, next-here, next-later, next-none, next-
 use Rattle.tables.specs.Rows.{isRow, syntaxIn}
 use Rattle.tables.specs.Reading.{Guide, rowAt, rowBelow}
 use Rattle.tables.proofs.Laws.{row-within, notes-skip, notes-stop, notes-end}
-use Rattle.elements.specs.Values.{takes}
+use Rattle.elements.specs.Values.{codeBy}
 use Rattle.elements.specs.Notes.{breaksFrom, breaksBefore}
 use Rattle.look.specs.Bytes.{isOther}
 use Rattle.look.specs.Passing.{idEnd, startAfter, isOver, begins, stops, readRows, passed}
@@ -58,7 +58,7 @@ module _ (table : List Bool) (d : Delimiters) (rest : Bytes) (rows : Guide) (k n
 
   pub read-row : k < length rows → isRow 1 (getD rows k []) ≡ false → isRow 2 (getD rows k []) ≡ true
       → readRows table d rest (drop k rows) n end
-      ≡ (if takes (rowAt rows k) (part rest (begins table d rest end) (stops table d rest end))
+      ≡ (if eqb (codeBy true (rowAt rows k) (part rest (begins table d rest end) (stops table d rest end))) 0
       then readRows table d rest (drop (k + 1) rows) (n + 1) (stops table d rest end) else none)
   unfolding readRows
   read-row h e f = rw (here h, e, f)
@@ -124,7 +124,7 @@ module _ {table : List Bool} {d : Delimiters} {rest : Bytes} {rows : Guide} {ent
     field-ends = rw g (next-within (isOther table) rest start (rw p (begins-within (d .element) rest end (r .within))))
 
     module _ (h : k < length rows) (e : isRow 1 (getD rows k []) ≡ false) (f : isRow 2 (getD rows k []) ≡ true) where
-      pub read-taken : {note : Bool} → note ≡ isRow 4 (getD rows k []) → takes (rowAt rows k) (part rest start stop) ≡ true
+      pub read-taken : {note : Bool} → note ≡ isRow 4 (getD rows k []) → eqb (codeBy true (rowAt rows k) (part rest start stop)) 0 ≡ true
           → ReadTo table d rest rows entry id (k + 1) (n + 1) stop (noted || note)
       read-taken q t = record {
         left = r .left ∙ read-row table d rest rows k n end h e f ∙ rw (← stopped, ← p, t);
@@ -134,7 +134,7 @@ module _ {table : List Bool} {d : Delimiters} {rest : Bytes} {rows : Guide} {ent
         quiet = still h e q;
       }
 
-      pub read-refused : takes (rowAt rows k) (part rest start stop) ≡ false → passed table d rest rows entry id ≡ Faulty
+      pub read-refused : eqb (codeBy true (rowAt rows k) (part rest start stop)) 0 ≡ false → passed table d rest rows entry id ≡ Faulty
       unfolding passed
       read-refused t = rw (r .left, read-row table d rest rows k n end h e f, ← stopped, ← p, t)
 

@@ -6,7 +6,7 @@ use mathlib.Core.Option.{Option, none, some}
 use Prim.Native.Nat.{ℕ, zero, suc, _+_, _-_, _<_, _≤_}
 use native.Mathlib.Omega.{arith}
 use borrow.Author.Tests.{lt-ltb, ltb-true}
-use lib.Dec.{ltb}
+use lib.Dec.{eqb, ltb}
 use lib.ListN.{length, take, drop, length-drop, length-take}
 use lib.Seq.{take-all, length-take-le}
 use Rattle.rules.specs.Base.{Bytes, ascii, same, if_then_else_}
@@ -16,7 +16,7 @@ use Rattle.text.specs.Text.{nextWhere, part}
 use Rattle.text.proofs.Where.{next-within}
 use Rattle.tables.specs.Rows.{isRow, rowIs, codesIn, syntaxIn}
 use Rattle.tables.specs.Reading.{Guide, rowBelow}
-use Rattle.elements.specs.Values.{takes}
+use Rattle.elements.specs.Values.{codeBy}
 use Rattle.elements.specs.Notes.{breaksBefore}
 use Rattle.sets.specs.Places.{closedAt}
 use Rattle.look.specs.Bytes.{isOther}
@@ -47,7 +47,7 @@ module _ (table : List Bool) (d : Delimiters) (rest : Bytes) where
   unfolding readRows
   read-within [] n end h = h
   read-within (r ∷ rows) n end h =
-      go (isRow 1 r) (isRow 2 r) (takes (rowIs r (codesIn rows)) (part rest (begins table d rest end) (stops table d rest end)))
+      go (isRow 1 r) (isRow 2 r) (eqb (codeBy true (rowIs r (codesIn rows)) (part rest (begins table d rest end) (stops table d rest end))) 0)
       (read-within rows (n + 1) (stops table d rest end) (stops-within end h)) (read-within rows n end h)
     where
       next : Option Stop

@@ -1,6 +1,6 @@
 -- One look at the segment that the bytes begin with: its fields are taken by the rows of its entry, as far as their bytes are valid by a table.
 use Prim.Native.Nat.{ℕ, _+_}
-use mathlib.Core.Bool.{Bool, true, false, _&&_, _||_, not}
+use mathlib.Core.Bool.{Bool, true, _&&_, _||_, not}
 use mathlib.Core.List.{List, [], _∷_}
 use mathlib.Core.Option.{Option, none, some}
 use lib.Dec.{eqb, ltb}
@@ -11,7 +11,7 @@ use Rattle.rules.specs.declared.Delimiters.{Delimiters}
 use Rattle.text.specs.Text.{indexWhere, nextWhere, part}
 use Rattle.tables.specs.Rows.{isRow, rowIs, codesIn, syntaxIn}
 use Rattle.tables.specs.Reading.{Guide, rowBelow}
-use Rattle.elements.specs.Values.{takes}
+use Rattle.elements.specs.Values.{codeBy}
 use Rattle.elements.specs.Notes.{breaksBefore}
 use Rattle.look.specs.Bytes.{isOther}
 use Rattle.look.specs.declared.segment.Passed.{Passed}
@@ -49,7 +49,7 @@ module _ (table : List Bool) (d : Delimiters) (rest : Bytes) where
       let next = readRows rs (n + 1) (stops end) in
       let here = readRows rs n end in
       if isRow 1 r then some (record { place = n; end = end })
-      else (if isRow 2 r then (if takes (rowIs r (codesIn rs)) (part rest (begins end) (stops end)) then next else none)
+      else (if isRow 2 r then (if eqb (codeBy true (rowIs r (codesIn rs)) (part rest (begins end) (stops end))) 0 then next else none)
       else here)
 
   -- the segment by the fields that were read: it ends there and breaks no note, or something is found

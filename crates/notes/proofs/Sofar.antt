@@ -10,7 +10,7 @@ use Rattle.rules.specs.Response.{segmentOut, out}
 use Rattle.rules.specs.declared.Delimiters.{Delimiters}
 use Rattle.rules.proofs.Cuts.{out-append}
 use Rattle.writing.specs.Over.{sat, From}
-use Rattle.writing.proofs.Laws.{Owes, all, pay, done, whole, none, said, kept}
+use Rattle.writing.proofs.Laws.{Owes, all, pay, done, seq, whole, none, said, kept}
 use Rattle.notes.specs.declared.Told.{Told}
 use Rattle.notes.specs.Saying.{Adds, Tells}
 
@@ -27,32 +27,44 @@ pub adds-one : {d : Delimiters} {s : Segment} {t r : Told} {m : ℕ} {o o₁ : B
 unfolding out
 adds-one {d} {s} w e = rw e (record { text = said (append-nil (segmentOut d s)) w; number = refl })
 
+-- some, and then more
+pub adds-more : {d : Delimiters} {us vs : List Segment} {t r q : Told} {o o₁ o₂ : Bytes}
+    → Adds d us t r o o₁ → Adds d vs r q o₁ o₂ → Adds d (us ++ vs) t q o o₂
+adds-more {d} {us} {vs} a b =
+    let first = a .number in
+    let then = b .number in
+    record { text = said (out-append d us vs) (seq (a .text) (b .text)); number = omega (arith, length-append us vs) }
+
+-- the same segments in other words
+pub adds-same : {d : Delimiters} {us vs : List Segment} {t r : Told} {o o₁ : Bytes} → us ≡ vs → Adds d us t r o o₁ → Adds d vs t r o o₁
+adds-same e a = rw e at a
+
 -- 2. How far a loop has come.
--- Of the segments ss those of `rest` are still to be written: t tells what is, and the buffer, o₀ at first, is o.
-pub record Sofar (d : Delimiters) (ss rest : List Segment) (t : Told) (o₀ o : Bytes) : Type 0 where
-  pub owes : Owes (out d rest) (t .length) o 0 (out d ss) o₀
-  pub number : sat (t .segments + length rest) ≡ sat (length ss)
+-- Of the segments ss, which come after what t₀ tells, those of `rest` are still to be written: t tells what is, and the buffer, o₀ at first, is o.
+pub record Sofar (d : Delimiters) (t₀ : Told) (ss rest : List Segment) (t : Told) (o₀ o : Bytes) : Type 0 where
+  pub owes : Owes (out d rest) (t .length) o (t₀ .length) (out d ss) o₀
+  pub number : sat (t .segments + length rest) ≡ sat (t₀ .segments + length ss)
   pub length-fits : t .length < 18446744073709551616
   pub number-fits : t .segments < 18446744073709551616
   pub room : length o < 9223372036854775808
   pub stays : length o ≡ length o₀
 
 -- none is written
-pub begin : (d : Delimiters) (ss : List Segment) (o : Bytes) → length o < 9223372036854775808
-    → Sofar d ss ss (record { length = 0; segments = 0 }) o o
-begin d ss o small = record {
-  owes = all 0 (out d ss) o;
-  number = omega arith;
-  length-fits = omega arith;
-  number-fits = omega arith;
+pub begin : (d : Delimiters) (t : Told) (ss : List Segment) (o : Bytes)
+    → t .length < 18446744073709551616 → t .segments < 18446744073709551616 → length o < 9223372036854775808 → Sofar d t ss ss t o o
+begin d t ss o long many small = record {
+  owes = all (t .length) (out d ss) o;
+  number = refl;
+  length-fits = long;
+  number-fits = many;
   room = small;
   stays = refl;
 }
 
 -- the next ones are written and counted
-pub onward : {d : Delimiters} {ss rest us vs : List Segment} {t r : Told} {o₀ o o₁ : Bytes}
-    → Sofar d ss us t o₀ o → us ≡ vs ++ rest → Adds d vs t r o o₁ → Sofar d ss rest r o₀ o₁
-onward {d} {ss} {rest} {us} {vs} {t} {r} {o₀} {o} {o₁} f e w =
+pub onward : {d : Delimiters} {t₀ : Told} {ss rest us vs : List Segment} {t r : Told} {o₀ o o₁ : Bytes}
+    → Sofar d t₀ ss us t o₀ o → us ≡ vs ++ rest → Adds d vs t r o o₁ → Sofar d t₀ ss rest r o₀ o₁
+onward {d} {t₀} {ss} {rest} {us} {vs} {t} {r} {o₀} {o} {o₁} f e w =
     let longer = w .text .count in
     let more = w .number in
     let same = kept (w .text) in
@@ -66,8 +78,12 @@ onward {d} {ss} {rest} {us} {vs} {t} {r} {o₀} {o} {o₁} f e w =
     }
 
 -- all are written
-pub ends : {d : Delimiters} {ss us : List Segment} {t : Told} {o₀ o : Bytes} → Sofar d ss us t o₀ o → us ≡ [] → Tells d ss t o₀ o
+pub ends : {d : Delimiters} {t₀ : Told} {ss us : List Segment} {t : Told} {o₀ o : Bytes} → Sofar d t₀ ss us t o₀ o → us ≡ [] → Adds d ss t₀ t o₀ o
 unfolding out
 ends f e =
     let counted = f .number in
-    record { text = whole (done (f .owes) (rw e) (f .length-fits) (f .room)); number = omega (arith, f .number-fits, rw e at counted) }
+    record { text = done (f .owes) (rw e) (f .length-fits) (f .room); number = omega (arith, f .number-fits, rw e at counted) }
+
+-- from nothing on
+pub tells : {d : Delimiters} {ss : List Segment} {t : Told} {o₀ o : Bytes} → Adds d ss (record { length = 0; segments = 0 }) t o₀ o → Tells d ss t o₀ o
+tells a = let counted = a .number in record { text = whole (a .text); number = omega arith }

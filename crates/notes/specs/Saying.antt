@@ -1,27 +1,14 @@
--- What a step of a walk tells, and what a writer of segments promises: their text, and how many they are.
+-- What a writer of segments promises: their text, and how many they are.
 use mathlib.Core.Path.{_≡_}
-use mathlib.Core.List.{List, [], _∷_}
+use mathlib.Core.List.{List}
 use Prim.Native.Nat.{_+_}
 use lib.ListN.{length}
 use Rattle.rules.specs.Base.{Bytes}
 use Rattle.rules.specs.Cutting.{Segment}
 use Rattle.rules.specs.Response.{out}
 use Rattle.rules.specs.declared.Delimiters.{Delimiters}
-use Rattle.tables.specs.Reading.{idBytes}
-use Rattle.findings.specs.Events.{Event, Line, Element}
-use Rattle.findings.specs.Steps.{codesOf}
-use Rattle.findings.specs.declared.Step.{Step}
-use Rattle.findings.specs.declared.Step.the-variants.{Quiet, Done}
-use Rattle.findings.specs.declared.Step.the-variants as tell
 use Rattle.writing.specs.Over.{sat, Wrote, From}
 use Rattle.notes.specs.declared.Told.{Told}
-
--- the events that a step tells: one or none
-abbrev pub toldIn : Step → List Event
-toldIn (Quiet v) = []
-toldIn (tell.Segment l v) = Line (idBytes (l .id)) (l .position) (codesOf (l .own) (l .faulty)) ∷ []
-toldIn (tell.Element f v) = Element f ∷ []
-toldIn Done = []
 
 -- The segments ss were written after what t has: their text after its text, which leaves o as o′; r has the length and the number of all.
 pub record Adds (d : Delimiters) (ss : List Segment) (t r : Told) (o o′ : Bytes) : Type 0 where

@@ -1,22 +1,99 @@
 // The notes of a set, written: an AK3 for each segment that is told, and an AK4 for each finding.
 ghost use mathlib.Core.Path.{_≡_};
+ghost use mathlib.Core.Bool.{_&&_};
 ghost use mathlib.Core.List.{[], _∷_, map};
 ghost use Prim.Native.Nat.{_+_};
-ghost use Rattle.rules.specs.Base.{every, _⇒_};
+ghost use lib.ListN.{length, getD};
+ghost use Rattle.rules.specs.Base.{every, _⇒_, all, between, isUpperOrDigit};
+ghost use Rattle.rules.specs.Cutting.{field, split};
 ghost use Rattle.rules.specs.Numbers.{decimal};
 ghost use Rattle.rules.specs.Response.{fieldsOut, segmentOut, ak4};
+ghost use Rattle.rules.specs.Segments.{echoed};
 ghost use Rattle.tables.specs.Reading.{idBytes};
+ghost use Rattle.elements.specs.Checks.{findingsAt, findingsFrom};
 ghost use Rattle.findings.specs.Events as events;
 ghost use Rattle.findings.specs.Remaining as rest;
-ghost use Rattle.findings.specs.Steps.{codesOf, start};
-ghost use Rattle.notes.specs.Saying.{toldIn, Adds, Tells};
+ghost use Rattle.findings.specs.Steps.{codesOf, isChecked, start};
+ghost use Rattle.notes.specs.Lines.{echo, absent, findingOf, foundBy};
+ghost use Rattle.notes.specs.Saying.{Adds, Tells};
 ghost use Rattle.writing.specs.Over.{sat, From};
-use findings::Line;
+use elements::Found;
+use elements::PlaceCodes;
+use findings::Missing;
+use findings::Passed;
 use findings::Step;
+use findings::Taken;
 use rules::Delimiters;
 use rules::Finding;
 use rules::SegmentCode;
 use tables::SegmentId;
+
+// What is told of one segment, an AK3: its codes are its own, where that is not 0, and 8, where it is faulty.
+struct Line {
+    id: SegmentId,
+    position: usize,
+    own: u8,
+    faulty: bool,
+}
+
+fn byte_at(s: &[u8], i: usize) -> u8
+    ensures { λ r. ⌜ r ≡ getD (now (s .entry)) i 0 ⌝ }
+{
+    if i < s.len() {
+        return s[i];
+    }
+    0
+}
+
+// Two or three uppercase letters or digits: an id that is echoed as it is.
+fn is_id(s: &[u8]) -> bool
+    ensures { λ r. ⌜ r ≡ (between 2 3 (length (now (s .entry))) && all isUpperOrDigit (now (s .entry))) ⌝ }
+{
+    if s.len() < 2 {
+        return false;
+    }
+    if 3 < s.len() {
+        return false;
+    }
+    text::is_name(s)
+}
+
+// The id that is echoed, `ZZZ` for what is none.
+fn echo(id: &[u8]) -> SegmentId
+    ensures { λ r. ⌜ r ≡ echo (now (id .entry)) ⌝ }
+{
+    if is_id(id) {
+        return SegmentId {
+            first: byte_at(id, 0),
+            second: byte_at(id, 1),
+            third: byte_at(id, 2),
+        };
+    }
+    SegmentId {
+        first: b'Z',
+        second: b'Z',
+        third: b'Z',
+    }
+}
+
+// The mandatory segment of row k is missing.
+fn absent(guide: &[[u16; 6]], k: usize, position: usize) -> Line
+    ensures { λ r. ⌜ r ≡ absent (now (guide .entry)) k position ⌝ }
+{
+    Line {
+        id: tables::id_at(guide, k),
+        position,
+        own: SegmentCode::MISSING,
+        faulty: false,
+    }
+}
+
+// A segment with this code has its elements checked.
+fn is_checked(own: u8) -> bool
+    ensures { λ r. ⌜ r ≡ isChecked own ⌝ }
+{
+    own != SegmentCode::NOT_KNOWN && own != SegmentCode::NOT_IN_TABLE
+}
 
 // A segment's id as an element.
 fn add_id(out: &mut [u8], n: usize, d: Delimiters, id: SegmentId) -> usize
@@ -77,16 +154,132 @@ fn one_more(told: Told, n: usize) -> Told
     }
 }
 
-// What one step of a walk tells, written after what was told before: an AK3, an AK4 or nothing.
-fn add_told(out: &mut [u8], told: Told, d: Delimiters, step: Step) -> Told
-    ensures { λ r. ⌜ Adds d (map events.written (toldIn step)) told r (now (out .entry)) (now (out .exit)) ⌝ }
+// An AK3 after what was told before.
+fn add_line(out: &mut [u8], told: Told, d: Delimiters, l: Line) -> Told
+    ensures { λ r. ⌜ Adds d (events.written (events.Line (idBytes (l .id)) (l .position) (codesOf (l .own) (l .faulty))) ∷ []) told r (now (out .entry)) (now (out .exit)) ⌝ }
 {
-    match step {
-        Step::Quiet(_) => told,
-        Step::Segment(line, _) => one_more(told, add_ak3(out, told.length, d, line)),
-        Step::Element(finding, _) => one_more(told, add_ak4(out, told.length, d, finding)),
-        Step::Done => told,
+    one_more(told, add_ak3(out, told.length, d, l))
+}
+
+// The mandatory segments among the rows that are passed over, an AK3 for each.
+fn add_missing(
+    out: &mut [u8],
+    told: Told,
+    d: Delimiters,
+    guide: &[[u16; 6]],
+    passed: Passed,
+) -> Told
+    ensures { λ r. ⌜ Adds d (map events.written (rest.passedEvents (now (guide .entry)) passed)) told r (now (out .entry)) (now (out .exit)) ⌝ }
+{
+    let mut sum = told;
+    let mut k = passed.from;
+    loop {
+        match findings::next_missing(guide, k, passed.end) {
+            Missing::Row(row) => {
+                sum = add_line(out, sum, d, absent(guide, row, passed.position));
+                k = row + 1;
+            }
+            Missing::Nothing => {
+                return sum;
+            }
+        }
     }
+}
+
+// The AK3 of a segment, where it has a code.
+fn add_segment_line(
+    out: &mut [u8],
+    told: Told,
+    s: &[u8],
+    d: Delimiters,
+    taken: Taken,
+    faulty: bool,
+) -> Told
+    ensures { λ r. ⌜ Adds d (map events.written (rest.lined (echoed (field (split (d .element) (now (s .entry))) 0)) (taken .passed .position) (codesOf (taken .own) faulty))) told r (now (out .entry)) (now (out .exit)) ⌝ }
+{
+    if (taken.own == 0) & !faulty {
+        return told;
+    }
+    let line = Line {
+        id: echo(segments::id(s, d.element)),
+        position: taken.passed.position,
+        own: taken.own,
+        faulty,
+    };
+    add_line(out, told, d, line)
+}
+
+// An AK4, where there is a code.
+fn add_finding(out: &mut [u8], told: Told, d: Delimiters, f: Finding) -> Told
+    ensures { λ r. ⌜ Adds d (map ak4 (findingOf f)) told r (now (out .entry)) (now (out .exit)) ⌝ }
+{
+    if f.code == 0 {
+        return told;
+    }
+    one_more(told, add_ak4(out, told.length, d, f))
+}
+
+// The codes of a place.
+fn add_codes(out: &mut [u8], told: Told, d: Delimiters, c: PlaceCodes) -> Told
+    ensures { λ r. ⌜ Adds d (map ak4 (findingsAt c)) told r (now (out .entry)) (now (out .exit)) ⌝ }
+{
+    let told = add_finding(out, told, d, Finding::new(c.place, c.reference, c.own));
+    add_finding(out, told, d, Finding::new(c.place, c.reference, c.noted))
+}
+
+// The findings of a segment from what is found on, an AK4 for each.
+fn add_findings(
+    out: &mut [u8],
+    told: Told,
+    s: &[u8],
+    d: Delimiters,
+    guide: &[[u16; 6]],
+    found: Found,
+) -> Told
+    ensures { λ r. ⌜ Adds d (map ak4 (findingsFrom d (now (s .entry)) (now (guide .entry)) found)) told r (now (out .entry)) (now (out .exit)) ⌝ }
+{
+    let mut sum = told;
+    let mut next = found;
+    loop {
+        match next {
+            Found::Codes(codes, cursor) => {
+                sum = add_codes(out, sum, d, codes);
+                next = elements::next_found(s, d, guide, cursor);
+            }
+            Found::Nothing => {
+                return sum;
+            }
+        }
+    }
+}
+
+// What is found first in a segment with this code, by the entry of row `check`.
+fn found_in(s: &[u8], d: Delimiters, guide: &[[u16; 6]], own: u8, check: usize) -> Found
+    ensures { λ r. ⌜ r ≡ foundBy d (now (s .entry)) (now (guide .entry)) own check ⌝ }
+{
+    if is_checked(own) {
+        return elements::first_found(s, d, guide, check);
+    }
+    Found::Nothing
+}
+
+// What a segment passes over, its own AK3, and its findings.
+fn add_segment(
+    out: &mut [u8],
+    told: Told,
+    set: &[u8],
+    d: Delimiters,
+    guide: &[[u16; 6]],
+    taken: Taken,
+) -> Told
+    ensures { λ r. ⌜ Adds d (map events.written (rest.takenEvents d (now (guide .entry)) (now (set .entry)) taken)) told r (now (out .entry)) (now (out .exit)) ⌝ }
+{
+    let passed = taken.passed;
+    let s = text::part(set, taken.start, taken.end);
+    let found = found_in(s, d, guide, taken.own, taken.check);
+    let told = add_missing(out, told, d, guide, passed);
+    let told = add_segment_line(out, told, s, d, taken, found.is_some());
+    add_findings(out, told, s, d, guide, found)
 }
 
 // The notes of a set, from the start of what is lent.
@@ -106,17 +299,13 @@ pub fn put_notes(
     };
     let mut w = findings::start();
     loop {
-        let step = findings::next(set, d, directory, guide, closed, w);
-        told = add_told(out, told, d, step);
-        match step {
-            Step::Quiet(v) => {
+        match findings::next(set, d, directory, guide, closed, w) {
+            Step::Segment(taken, v) => {
+                told = add_segment(out, told, set, d, guide, taken);
                 w = v;
             }
-            Step::Segment(_, v) => {
-                w = v;
-            }
-            Step::Element(_, v) => {
-                w = v;
+            Step::Trailer(passed) => {
+                return add_missing(out, told, d, guide, passed);
             }
             Step::Done => {
                 return told;

@@ -29,7 +29,6 @@ use Rattle.text.proofs.value.Reads as text-value
 use Rattle.text.proofs.count_in.Reads as text-count-in
 use Rattle.text.proofs.declares.Reads as text-declares
 use Rattle.text.proofs.is_time.Reads as text-is-time
-use Rattle.text.proofs.find_invalid.Reads as text-find-invalid
 use Rattle.text.proofs.all_valid.Reads as text-all-valid
 use Rattle.text.proofs.is_text.Reads as text-is-text
 use Rattle.text.proofs.is_name.Reads as text-is-name
@@ -84,12 +83,14 @@ use Rattle.verdicts.proofs.Codes.is_empty.Reads as verdicts-Codes-is-empty
 use Rattle.verdicts.proofs.set_codes.Reads as verdicts-set-codes
 use Rattle.verdicts.proofs.summary_of.Reads as verdicts-summary-of
 use Rattle.verdicts.proofs.closes.Reads as verdicts-closes
-use Rattle.elements.proofs.next_code.Reads as elements-next-code
-use Rattle.elements.proofs.is_clean.Reads as elements-is-clean
+use Rattle.elements.proofs.Found.is_some.Reads as elements-Found-is-some
+use Rattle.elements.proofs.next_found.Reads as elements-next-found
+use Rattle.elements.proofs.first_found.Reads as elements-first-found
 use Rattle.elements.proofs.takes.Reads as elements-takes
 use Rattle.elements.proofs.breaks_before.Reads as elements-breaks-before
 use Rattle.findings.proofs.start.Reads as findings-start
 use Rattle.findings.proofs.next.Reads as findings-next
+use Rattle.findings.proofs.next_missing.Reads as findings-next-missing
 use Rattle.writing.proofs.clipped.Reads as writing-clipped
 use Rattle.writing.proofs.joined.Reads as writing-joined
 use Rattle.writing.proofs.add_byte.Reads as writing-add-byte
@@ -196,9 +197,6 @@ text-declares-once = ((λ κs a. tt), λ κs a r₁ r₂ s₁ s₂ p q. p ∙ sy
 
 text-is-time-once : Determined text-is-time.Pre text-is-time.Post (λ κs r s. r)
 text-is-time-once = ((λ κs a. tt), λ κs a r₁ r₂ s₁ s₂ p q. p ∙ sym q)
-
-text-find-invalid-once : Determined text-find-invalid.Pre text-find-invalid.Post (λ κs r s. r)
-text-find-invalid-once = ((λ κs a. tt), λ κs a r₁ r₂ s₁ s₂ p q. p ∙ sym q)
 
 text-all-valid-once : Determined text-all-valid.Pre text-all-valid.Post (λ κs r s. r)
 text-all-valid-once = ((λ κs a. tt), λ κs a r₁ r₂ s₁ s₂ p q. p ∙ sym q)
@@ -360,11 +358,20 @@ verdicts-summary-of-once : Determined verdicts-summary-of.Pre verdicts-summary-o
 verdicts-summary-of-once = ((λ κs a. tt), λ κs a r₁ r₂ s₁ s₂ p q. p ∙ sym q)
 
 -- elements
-elements-next-code-once : Determined elements-next-code.Pre elements-next-code.Post (λ κs r s. r)
-elements-next-code-once = ((λ κs a. tt), λ κs a r₁ r₂ s₁ s₂ p q. p ∙ sym q)
+elements-Found-is-some-once : Determined elements-Found-is-some.Pre elements-Found-is-some.Post (λ κs r s. r)
+elements-Found-is-some-once = ((λ κs a. tt), λ κs a r₁ r₂ s₁ s₂ p q. p ∙ sym q)
 
-elements-is-clean-once : Determined elements-is-clean.Pre elements-is-clean.Post (λ κs r s. r)
-elements-is-clean-once = ((λ κs a. tt), λ κs a r₁ r₂ s₁ s₂ p q. p ∙ sym q)
+elements-next-found-once : Determined elements-next-found.Pre elements-next-found.Post (λ κs r s. r)
+elements-next-found-once = ((λ κs a. tt), λ κs a r₁ r₂ s₁ s₂ p q. p ∙ sym q)
+
+elements-first-found-once : Determined elements-first-found.Pre elements-first-found.Post (λ κs r s. r)
+elements-first-found-once = ((λ κs a. tt), λ κs a r₁ r₂ s₁ s₂ p q. p ∙ sym q)
+
+elements-takes-once : Determined elements-takes.Pre elements-takes.Post (λ κs r s. r)
+elements-takes-once = ((λ κs a. tt), λ κs a r₁ r₂ s₁ s₂ p q. p ∙ sym q)
+
+elements-breaks-before-once : Determined elements-breaks-before.Pre elements-breaks-before.Post (λ κs r s. r)
+elements-breaks-before-once = ((λ κs a. tt), λ κs a r₁ r₂ s₁ s₂ p q. p ∙ sym q)
 
 -- findings
 findings-start-once : Determined findings-start.Pre findings-start.Post (λ κs r s. r)
@@ -372,6 +379,9 @@ findings-start-once = ((λ κs a. tt), λ κs a r₁ r₂ s₁ s₂ p q. p ∙ s
 
 findings-next-once : Determined findings-next.Pre findings-next.Post (λ κs r s. r)
 findings-next-once = ((λ κs a. tt), λ κs a r₁ r₂ s₁ s₂ p q. p ∙ sym q)
+
+findings-next-missing-once : Determined findings-next-missing.Pre findings-next-missing.Post (λ κs r s. r)
+findings-next-missing-once = ((λ κs a. tt), λ κs a r₁ r₂ s₁ s₂ p q. p ∙ sym q)
 
 -- writing
 writing-clipped-once : Determined writing-clipped.Pre writing-clipped.Post (λ κs r s. r)
@@ -461,12 +471,6 @@ exchange-exchange-once = ((λ κs a. tt), λ κs a r₁ r₂ s₁ s₂ p q. both
 
 blocks-put-acceptance-once : Determined blocks-put-acceptance.Pre blocks-put-acceptance.Post (λ κs r s. beside r (now (s .0)))
 blocks-put-acceptance-once = ((λ κs a. tt), λ κs a r₁ r₂ s₁ s₂ p q. wrote-once p q)
-
-elements-takes-once : Determined elements-takes.Pre elements-takes.Post (λ κs r s. r)
-elements-takes-once = ((λ κs a. tt), λ κs a r₁ r₂ s₁ s₂ p q. p ∙ sym q)
-
-elements-breaks-before-once : Determined elements-breaks-before.Pre elements-breaks-before.Post (λ κs r s. r)
-elements-breaks-before-once = ((λ κs a. tt), λ κs a r₁ r₂ s₁ s₂ p q. p ∙ sym q)
 
 look-valid-bytes-once : Determined look-valid-bytes.Pre look-valid-bytes.Post (λ κs r s. r)
 look-valid-bytes-once = ((λ κs a. tt), λ κs a r₁ r₂ s₁ s₂ p q. p ∙ sym q)

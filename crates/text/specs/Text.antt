@@ -1,14 +1,12 @@
 -- What the leaves on bytes answer where document 01 has no definition of it.
 use Prim.Native.Nat.{ℕ, suc, _+_, _-_}
-use mathlib.Core.Bool.{Bool, not}
+use mathlib.Core.Bool.{Bool}
 use mathlib.Core.List.{List, [], _∷_}
 use mathlib.Core.Option.{Option, none, some}
 use lib.Dec.{eqb}
 use lib.ListN.{take, drop}
 use Rattle.rules.specs.Base.{Bytes, if_then_else_}
-use Rattle.rules.specs.Cutting.{valid}
 use Rattle.rules.specs.Numbers.{digits, value}
-use Rattle.rules.specs.declared.Delimiters.{Delimiters}
 use Rattle.text.specs.declared.Count.{Count}
 use Rattle.text.specs.declared.Count.the-variants.{Of, Nothing}
 
@@ -28,10 +26,6 @@ nextWhere p xs k = k + indexWhere p (drop k xs)
 -- the bytes from one place up to another, those that there are
 abbrev pub part : Bytes → ℕ → ℕ → Bytes
 part s from to = take (to - from) (drop from s)
-
--- no valid byte
-abbrev pub invalid : Delimiters → ℕ → Bool
-invalid d b = not (valid d b)
 
 -- the value of at most ten digits, 0 for anything else
 unfoldable pub upToTen : Bytes → ℕ

@@ -8,7 +8,7 @@ ghost use Rattle.rules.specs.Base.{between, isDigit, isUpper, isUpperOrDigit, s
 ghost use Rattle.rules.specs.Cutting.{valid, text};
 ghost use Rattle.rules.specs.Numbers.{digits, countIn, declares, isTime};
 ghost use Rattle.rules.specs.Elements as law;
-ghost use Rattle.text.specs.Text.{indexOf, nextWhere, part, invalid, upToTen, counted};
+ghost use Rattle.text.specs.Text.{indexOf, part, upToTen, counted};
 use rules::Delimiters;
 
 // The place of the first b from `from` on; the length where there is none, and `from` where that is past the end.
@@ -210,20 +210,6 @@ pub fn is_valid(b: u8, d: Delimiters) -> bool
     ensures { λ r. ⌜ r ≡ valid d b ⌝ }
 {
     (32 <= b) & (b <= 126) & !d.is_mark(b)
-}
-
-// The place of the first byte from `from` on that is not valid; the length where there is none, and `from` where that is past the end.
-pub fn find_invalid(s: &[u8], from: usize, d: Delimiters) -> usize
-    ensures { λ r. ⌜ r ≡ nextWhere (invalid d) (now (s .entry)) from ⌝ }
-{
-    let mut i = from;
-    while i < s.len() {
-        if !is_valid(s[i], d) {
-            return i;
-        }
-        i += 1;
-    }
-    i
 }
 
 // Nothing but valid bytes. All are looked at, which takes fewer branches than to stop at the first that is not.

@@ -1,4 +1,5 @@
 -- `elements::breaks_notes` meets its contract.
+use borrow.Author.Needs.{needs}
 use mathlib.Core.Path.{_≡_, sym, _∙_}
 use mathlib.Core.Bool.{true, false}
 use Prim.Native.Nat.{_-_}
@@ -8,37 +9,30 @@ use Rattle.rules.specs.Cutting.{split}
 use Rattle.tables.specs.Rows.{syntaxIn}
 use Rattle.elements.specs.Notes.{breaks}
 use Rattle.elements.proofs.Notes.{notes-step, notes-over, notes-past}
-use borrow.Author.Needs.{needs}
 use Rattle.elements.proofs.breaks_notes.Statement.{statement}
 use Rattle.elements.proofs.breaks_notes.Tie as tie
 
 abbrev Inv-loop : tie.InvT-loop
-Inv-loop s e guide from n k₀ k = any (breaks (split e s) n) (syntaxIn (drop from guide)) ≡ any (breaks (split e s) n) (syntaxIn (drop k guide))
+Inv-loop s e guide from n present k₀ k = any (breaks present (split e s) n) (syntaxIn (drop from guide)) ≡ any (breaks present (split e s) n) (syntaxIn (drop k guide))
 
 abbrev μ-loop : tie.MeasureT-loop
-μ-loop s e guide from n k₀ k = length guide - k
+μ-loop s e guide from n present k₀ k = length guide - k
 
 returns : tie.Need-returns Inv-loop μ-loop
-returns c =
-    let loop = c .before .before .before in
-    sym (loop .loop .inv ∙ notes-over _ (loop .before .before .args .guide .now) (loop .loop .k) (sym (c .before .is-segment .ensures) ∙ c .if1 .taken))
+returns c = sym (c .before .before .before .loop .inv ∙ notes-over _ (c .before .before .before .before .before .args .guide .now) (c .before .before .before .loop .k) (sym (c .before .is-segment .ensures) ∙ c .if1 .taken))
 
 returns-2 : tie.Need-returns-2 Inv-loop μ-loop
 returns-2 c =
-    let note = c .before .before in
-    let loop = note .before .before .before in
-    sym (loop .loop .inv
-    ∙ notes-step _ (loop .before .before .args .guide .now) (loop .loop .k) true
-    (sym (note .before .is-segment .ensures) ∙ note .if1 .left)
+    sym (c .before .before .before .before .before .loop .inv
+    ∙ notes-step _ (c .before .before .before .before .before .before .before .args .guide .now) (c .before .before .before .before .before .loop .k) true
+    (sym (c .before .before .before .is-segment .ensures) ∙ c .before .before .if1 .left)
     (sym (c .if2 .taken) ∙ c .before .breaks-note .ensures))
 
 loop-again : tie.Need-loop-again Inv-loop μ-loop
 loop-again c =
-    let note = c .before .before in
-    let loop = note .before .before .before in
-    loop .loop .inv
-    ∙ notes-step _ (loop .before .before .args .guide .now) (loop .loop .k) false
-    (sym (note .before .is-segment .ensures) ∙ note .if1 .left)
+    c .before .before .before .before .before .loop .inv
+    ∙ notes-step _ (c .before .before .before .before .before .before .before .args .guide .now) (c .before .before .before .before .before .loop .k) false
+    (sym (c .before .before .before .is-segment .ensures) ∙ c .before .before .if1 .left)
     (sym (c .if2 .left) ∙ c .before .breaks-note .ensures)
 
 returns-3 : tie.Need-returns-3 Inv-loop μ-loop

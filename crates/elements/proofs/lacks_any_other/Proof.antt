@@ -24,8 +24,9 @@ returns-3 c =
 
 returns-4 : tie.Need-returns-4
 returns-4 c =
-    let a = c .before .before .before .before .before .before .before .before .before .before .args in
-    sym (any-other-some (split (a .e) (a .s .now)) (a .n) (a .places .now) (c .before .before .before .before .before .before .before .if1 .left) ∙ rw (← c .before .before .before .before .before .before .place-at .ensures, eq-eqb _ _ (c .before .before .before .before .before .if2 .left), sym (c .before .before .before .any-present .ensures) ∙ c .before .before .if3 .left, ← c .before .place-at2 .ensures, ← c .is-present .ensures))
+    let second = c .before .before .before .before .before in
+    let a = second .before .before .before .before .before .args in
+    sym (any-other-some (split (a .e) (a .s .now)) (a .n) (a .places .now) (second .before .before .if1 .left) ∙ rw (← second .before .place-at .ensures, eq-eqb _ _ (second .if2 .left), sym (c .before .before .before .any-present .ensures) ∙ c .before .before .if3 .left, ← c .before .place-at2 .ensures, ← c .is-present .ensures))
 
 pub lacks-any-other-spec : {M : Type 1} → statement M
 lacks-any-other-spec =

@@ -24,8 +24,9 @@ returns-3 c =
 
 returns-4 : tie.Need-returns-4
 returns-4 c =
-    let a = c .before .before .before .before .before .before .before .before .before .before .args in
-    sym (other-some (split (a .e) (a .s .now)) (a .n) (a .places .now) (c .before .before .before .before .before .before .before .if1 .left) ∙ rw (sym (c .before .before .before .before .before .is-place .ensures) ∙ not-false _ (c .before .before .before .before .if2 .left), sym (c .before .before .before .is-present .ensures) ∙ c .before .before .if3 .left, ← c .before .place-at .ensures, ← c .is-present2 .ensures))
+    let listed = c .before .before .before .before in
+    let a = listed .before .before .before .before .before .before .args in
+    sym (other-some (split (a .e) (a .s .now)) (a .n) (a .places .now) (listed .before .before .before .if1 .left) ∙ rw (sym (listed .before .is-place .ensures) ∙ not-false _ (listed .if2 .left), sym (c .before .before .before .is-present .ensures) ∙ c .before .before .if3 .left, ← c .before .place-at .ensures, ← c .is-present2 .ensures))
 
 pub lacks-other-spec : {M : Type 1} → statement M
 lacks-other-spec =

@@ -1,6 +1,6 @@
 -- `elements::next_start` meets its contract.
 use borrow.Author.Tests.{lt-ltb, le-ltb}
-use Rattle.elements.specs.Places.{nextStart}
+use Rattle.elements.specs.Checks.{nextStart}
 use borrow.Author.Needs.{needs}
 use Rattle.elements.proofs.next_start.Statement.{statement}
 use Rattle.elements.proofs.next_start.Tie as tie

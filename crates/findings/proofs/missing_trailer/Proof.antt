@@ -8,14 +8,14 @@ use Rattle.findings.proofs.missing_trailer.Statement.{statement}
 use Rattle.findings.proofs.missing_trailer.Tie as tie
 
 returns : tie.Need-returns
-unfolding steps.openStep
-returns c = rw (← c .before .before .before .before .before .stands .ensures, c .before .before .before .row .given .1, c .to .ensures, c .before .bumped .ensures)
+unfolding steps.trailerStep
+returns c = rw (← c .before .before .before .before .stands .ensures, c .before .before .row .given .1, c .bumped .ensures)
 
 returns-2 : tie.Need-returns-2
-unfolding steps.openStep
+unfolding steps.trailerStep
 returns-2 c =
     let w = c .before .before .before .args .w in
-    rw (← c .before .stands .ensures) (not-later (λ st. Done ≡ steps.openBy w st) refl refl (λ k. refl) refl (c .before .stands .result) (c .match .keys2))
+    rw (← c .before .stands .ensures) (not-later (λ st. Done ≡ steps.trailerBy w st) refl refl (λ k. refl) refl (c .before .stands .result) (c .match .keys2))
 
 pub missing-trailer-spec : {M : Type 1} → statement M
 missing-trailer-spec =
@@ -24,7 +24,6 @@ missing-trailer-spec =
     (λ c. search needs)
     (λ c κs. search needs)
     (λ c. search needs)
-    (λ c κs. search needs)
     (λ c κs. search needs)
     returns
     returns-2)

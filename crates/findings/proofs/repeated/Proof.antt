@@ -5,8 +5,8 @@ use Rattle.findings.proofs.repeated.Statement.{statement}
 use Rattle.findings.proofs.repeated.Tie as tie
 
 returns : tie.Need-returns
-unfolding steps.taken
-returns c = rw (c .held .ensures, c .before .use-code .ensures, c .before .before .bumped .ensures)
+unfolding steps.outcome
+returns c = rw (c .use-code .ensures, c .before .bumped .ensures)
 
 pub repeated-spec : {M : Type 1} → statement M
-repeated-spec = tie.close (tie.spec (λ c. search needs) (λ c κs. search needs) (λ c κs. search needs) (λ c κs. search needs) returns)
+repeated-spec = tie.close (tie.spec (λ c κs. search needs) (λ c κs. search needs) returns)
