@@ -225,11 +225,21 @@ pub fn all_valid(s: &[u8], d: Delimiters) -> bool
     valid
 }
 
-// lo to hi valid bytes and nothing else.
+// lo to hi valid bytes and nothing else. They are few, so it stops at the first that is not valid.
 pub fn is_text(s: &[u8], lo: usize, hi: usize, d: Delimiters) -> bool
     ensures { λ r. ⌜ r ≡ text d lo hi (now (s .entry)) ⌝ }
 {
-    is_between(s.len(), lo, hi) && all_valid(s, d)
+    if !is_between(s.len(), lo, hi) {
+        return false;
+    }
+    let mut i = 0;
+    while i < s.len() {
+        if !is_valid(s[i], d) {
+            return false;
+        }
+        i += 1;
+    }
+    true
 }
 
 fn is_upper(b: u8) -> bool
