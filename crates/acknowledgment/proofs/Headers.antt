@@ -1,26 +1,22 @@
 -- The header of a set that can be answered: its id has two bytes and ST01 three, so ST01 and ST02 start three and seven bytes on.
 use mathlib.Core.Path.{_≡_, refl, sym, ap, _∙_}
-use mathlib.Core.Bool.{Bool, true, false, _&&_}
-use mathlib.Core.List.{List, [], _∷_}
+use mathlib.Core.Bool.{Bool, true, false}
+use mathlib.Core.List.{[], _∷_}
 use Prim.Native.Nat.{ℕ, zero, suc, _+_, _-_, _<_, _≤_}
-use native.Mathlib.Nat.{le-refl, le-of-suc-le-suc, not-suc-le-zero, sub-zero}
+use native.Mathlib.Nat.{le-of-suc-le-suc, not-suc-le-zero, sub-zero}
 use native.Mathlib.Omega.{arith}
-use lib.Dec.{eqb, ltb}
-use borrow.Author.Tests.{ltb-true, ltb-false}
+use lib.Dec.{eqb}
 use lib.ListN.{length, getD, take, drop, length-take, length-drop}
 use lib.Seq.{drop-drop, take-take, take-nil}
-use Rattle.rules.specs.Base.{Bytes, ascii, between, all, if_then_else_}
-use Rattle.rules.specs.Cutting.{Segment, field, split, pieces, segments, valid, text}
-use Rattle.rules.specs.Numbers.{digits}
-use Rattle.rules.specs.Refusals.{goodST}
+use Rattle.rules.specs.Base.{Bytes, if_then_else_}
+use Rattle.rules.specs.Cutting.{field, split, pieces}
 use Rattle.rules.specs.declared.Delimiters.{Delimiters}
-use Rattle.rules.proofs.Logic.{and-left, and-right, same→eq}
 use Rattle.text.specs.Text.{indexWhere, indexOf, part}
-use Rattle.text.proofs.Digits.{between-true, digits-length}
 use Rattle.text.proofs.Search.{find-le}
-use Rattle.segments.proofs.Fields.{FieldAt, field-first, field-at, field-next, field-past, fields-left}
+use Rattle.segments.proofs.Fields.{FieldAt, field-first, field-at}
 use Rattle.segments.proofs.Pieces.{segments-at, pieces-at}
 use Rattle.sets.specs.Places.{controlAt}
+use Rattle.sets.proofs.Headers.{kind-at, kind-length, kind-ends, number-at, header-long}
 use Rattle.register.specs.Fields.{fieldIn}
 use Rattle.register.proofs.Fields.{piece-field}
 use Rattle.acknowledgment.specs.Surveys.{headerAt, Headed}
@@ -76,68 +72,32 @@ module _ {d : Delimiters} {body : Bytes} {at : ℕ} (h : Headed d body at) where
   size-is : length bytes ≡ size
   size-is = omega (arith, length-take size left, find-le (d .terminator) left 0 (omega arith))
 
-  id-length : length (field (split e bytes) 0) ≡ 2
-  id-length = ap length (same→eq (field (split e bytes) 0) (ascii "ST") (h .named))
+  kind-place : FieldAt e bytes 1 3
+  kind-place = kind-at d bytes (h .named)
 
-  kind-length : (3 ≤ length (field (split e bytes) 1)) × (length (field (split e bytes) 1) ≤ 3)
-  unfolding goodST
-  kind-length = digits-length 3 3 (field (split e bytes) 1) (and-left (digits 3 3 (field (split e bytes) 1)) _ (h .good))
+  -- where ST01 ends
+  kind-end : 6 ≡ 3 + indexOf e (drop 3 bytes)
+  kind-end = sym (kind-ends d bytes (h .named) (h .good))
 
-  number-length : 4 ≤ length (field (split e bytes) 2)
-  unfolding goodST text
-  number-length =
-      let sized = and-right (digits 3 3 (field (split e bytes) 1)) (between 4 9 (length (field (split e bytes) 2)) && all (valid d) (field (split e bytes) 2)) (h .good) in
-      between-true 4 9 (length (field (split e bytes) 2)) (and-left (between 4 9 (length (field (split e bytes) 2))) (all (valid d) (field (split e bytes) 2)) sized) .0
+  number-place : FieldAt e bytes 2 7
+  number-place = number-at d bytes (h .named) (h .good)
 
-  -- where a field ends, by where it starts and how long it is
-  ends : {n start : ℕ} → FieldAt e bytes n start → start ≤ length bytes
-      → start + length (field (split e bytes) n) ≡ start + indexOf e (drop start bytes)
-  ends {n} {start} f k =
-      let end = start + indexOf e (drop start bytes) in
-      let l = find-le e bytes start k in
-      omega (arith, ap length (field-at f refl), length-take (end - start) (drop start bytes), length-drop start bytes)
-
-  kind-at : FieldAt e bytes 1 3
-  kind-at = let f = field-first {e = e} {s = bytes} in let p : 2 ≡ 0 + indexOf e (drop 0 bytes) = omega (arith, ends f (omega arith), id-length) in field-next f p
-
-  -- a field that is not empty starts within the header
-  within : {n start : ℕ} → FieldAt e bytes n start → 0 < length (field (split e bytes) n) → start ≤ length bytes
-  within {n} {start} f k = go (ltb (length bytes) start) refl
-    where
-      go : (b : Bool) → ltb (length bytes) start ≡ b → start ≤ length bytes
-      go true l =
-          let past = field-past f (ltb-true (length bytes) start l) n (le-refl n) in
-          absurd (not-suc-le-zero (rw past at k))
-      go false l = ltb-false (length bytes) start l
-
-  number-at : FieldAt e bytes 2 7
-  number-at =
-      let k = within kind-at (omega (arith, kind-length .0)) in
-      let p : 6 ≡ 3 + indexOf e (drop 3 bytes) = omega (arith, ends kind-at k, kind-length .0, kind-length .1) in
-      field-next kind-at p
-
-  pub header-long : 7 ≤ size
-  header-long = omega (arith, size-is, within number-at (omega (arith, number-length)))
-
-  -- a byte of ST02 stands there
-  header-some : 7 < length left
-  header-some = omega (arith, size-is, ends number-at (omega (arith, size-is, header-long)), number-length, find-le e bytes 7 (omega (arith, size-is, header-long)), length-take size left)
+  pub header-size : 11 ≤ size
+  header-size = omega (arith, size-is, header-long d bytes (h .named) (h .good))
 
   -- there are so many bytes
   pub header-inside : at + 7 ≤ length body
-  header-inside = omega (arith, header-long, find-le (d .terminator) left 0 (omega arith), length-drop at body, h .inside)
+  header-inside = omega (arith, header-size, find-le (d .terminator) left 0 (omega arith), length-drop at body, h .inside)
 
   -- ST01
   pub header-kind : part body (at + 3) (at + 6) ≡ field (headerAt d body at) 1
   header-kind =
-      let k = within kind-at (omega (arith, kind-length .0)) in
-      let p : 6 ≡ 3 + indexOf e (drop 3 bytes) = omega (arith, ends kind-at k, kind-length .0, kind-length .1) in
       let three : at + 6 - (at + 3) ≡ 3 = omega arith in
-      sym (field-at kind-at p ∙ rw (drop-take 3 size left, take-take 3 (size - 3) (drop 3 left) (omega (arith, header-long)), drop-drop 3 at body, three))
+      sym (field-at kind-place kind-end ∙ rw (drop-take 3 size left, take-take 3 (size - 3) (drop 3 left) (omega (arith, header-size)), drop-drop 3 at body, three))
 
   -- it has three bytes
   pub header-three : length (field (headerAt d body at) 1) ≡ 3
-  header-three = omega (arith, kind-length .0, kind-length .1)
+  header-three = kind-length d bytes (h .named) (h .good)
 
   -- ST02
   control-field : controlAt d body at ≡ field (split e bytes) 2
@@ -148,12 +108,12 @@ module _ {d : Delimiters} {body : Bytes} {at : ℕ} (h : Headed d body at) where
 
   -- the bytes from there on to the terminator
   number-bytes : take (indexOf (d .terminator) (drop 7 left)) (drop 7 left) ≡ drop 7 bytes
-  number-bytes = rw (drop-take 7 size left, index-drop (d .terminator) 7 left header-long)
+  number-bytes = rw (drop-take 7 size left, index-drop (d .terminator) 7 left (omega (arith, header-size)))
 
   first-field : field (split e (getD (pieces (d .terminator) (drop 7 left)) 0 [])) 0 ≡ take (indexOf e (drop 7 bytes)) (drop 7 bytes)
   first-field =
       let end = indexOf (d .terminator) (drop 7 left) in
-      let some : 0 < length (drop 7 left) = omega (arith, length-drop 7 left, header-some) in
+      let some : 0 < length (drop 7 left) = omega (arith, length-drop 7 left, header-size, find-le (d .terminator) left 0 (omega arith)) in
       let p : getD (pieces (d .terminator) (drop 7 left)) 0 [] ≡ drop 7 bytes = rw (pieces-at (d .terminator) (drop 7 left) 0 end some (omega arith), sub-zero) number-bytes in
       rw p (field-at {end = indexOf e (drop 7 bytes)} (field-first {e = e} {s = drop 7 bytes}) (omega arith) ∙ rw sub-zero)
 
@@ -161,4 +121,4 @@ module _ {d : Delimiters} {body : Bytes} {at : ℕ} (h : Headed d body at) where
   header-control =
       let z : 7 + indexOf e (drop 7 bytes) - 7 ≡ indexOf e (drop 7 bytes) = omega arith in
       rw (← drop-drop 7 at body)
-      (piece-field d 0 (drop 7 left) ∙ first-field ∙ sym (control-field ∙ field-at number-at refl ∙ rw z))
+      (piece-field d 0 (drop 7 left) ∙ first-field ∙ sym (control-field ∙ field-at number-place refl ∙ rw z))

@@ -1,3 +1,4 @@
+pub mod Headers
 pub mod Turns
 pub mod Sets
 pub mod Refused

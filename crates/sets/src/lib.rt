@@ -1,7 +1,9 @@
 // The sets of a group, cut from its bytes. `body` is the segments between GS and GE; a place in it may be one past its end.
 ghost use mathlib.Core.Path.{_≡_};
+ghost use mathlib.Core.Bool.{true};
 ghost use Rattle.rules.specs.Base.{first};
 ghost use Rattle.rules.specs.Cutting as cutting;
+ghost use Rattle.rules.specs.Sets.{isST};
 ghost use Rattle.rules.specs.Refusals.{goodST, setRules};
 ghost use Rattle.sets.specs.Places.{closedAt, unclosedAt, setAt};
 use rules::Delimiters;
@@ -81,12 +83,19 @@ pub fn next_set(body: &[u8], d: Delimiters, at: usize) -> SetAt
     SetAt::without_trailer(at, header, segments, next)
 }
 
-// ST01 is three digits, and ST02 is 4 to 9 valid bytes.
+// ST01 is three digits, and ST02 is 4 to 9 valid bytes: after its id a good header has them at fixed places.
 fn is_good_header(header: &[u8], d: Delimiters) -> bool
+    requires { ⌜ isST (cutting.split (d .element) (now header)) ≡ true ⌝ }
     ensures { λ r. ⌜ r ≡ goodST d (cutting.split (d .element) (now (header .entry))) ⌝ }
 {
-    text::is_digits(segments::field(header, d.element, 1), 3, 3)
-        && text::is_text(segments::field(header, d.element, 2), 4, 9, d)
+    if header.len() < 11 {
+        return false;
+    }
+    if text::find_near(header, 3, d.element) != 6 {
+        return false;
+    }
+    let end = text::find_near(header, 7, d.element);
+    text::is_digits(&header[3..6], 3, 3) && text::is_text(&header[7..end], 4, 9, d)
 }
 
 // Refusals 11 to 13: a segment outside every set, no set, a header that cannot be answered; 0 for none.

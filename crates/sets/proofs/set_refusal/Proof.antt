@@ -44,6 +44,9 @@ set c =
     set-is _ _ _ _ (c .before .before .before .before .before .loop-test .taken) (c .before .before .before .before .next-set .ensures)
     (ap (λ (s : Bytes). isST (split (d .element) s)) (sym (c .before .before .before .part .ensures)) ∙ sym (c .before .is-named .ensures) ∙ not-false _ (c .if2 .left))
 
+is-good-header-requires : tie.Need-is-good-header-requires Inv-loop μ-loop
+is-good-header-requires c κs = sym (c .before .is-named .ensures) ∙ not-false _ (c .if2 .left)
+
 loop-less : tie.Need-loop-less Inv-loop μ-loop
 loop-less c = let i = set (c .before .before) in omega (arith, i .onward)
 
@@ -80,7 +83,7 @@ set-refusal-spec =
     (λ c. search needs)
     (λ c κs. search needs)
     returns-2
-    (λ c κs. search needs)
+    is-good-header-requires
     loop-less
     loop-again
     loop-less-2
