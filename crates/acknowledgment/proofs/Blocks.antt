@@ -1,7 +1,7 @@
 -- The block of a set: its notes, its codes and its segments, as written, are those that document 01 reports of the set at a place.
 use mathlib.Core.Path.{_≡_, refl, sym, ap, _∙_, subst⁻¹}
 use mathlib.Core.Bool.{Bool, true, false, _&&_, not, Bool·not-not}
-use mathlib.Core.List.{List, [], _∷_, _++_, map, append-nil}
+use mathlib.Core.List.{List, [], _∷_, _++_, map, append-nil, append-assoc}
 use mathlib.Core.Option.{Option, none, some}
 use Prim.Native.Nat.{ℕ, _+_, _-_, _<_}
 use native.Mathlib.Omega.{arith}
@@ -91,11 +91,12 @@ unfolding setIn
 header-here d body at end h q = let e = segments-at d body at end h q in let f = header-at d body at _ h refl in cc
 
 -- AK2 and AK5 are the block of an accepted set
-pub acceptance-written : {d : Delimiters} (s : Set) {st01 st02 : Bytes} {n : ℕ} {o o₁ : Bytes} → st01 ≡ field (s .header) 1 → st02 ≡ controlOf s
-    → Wrote (segmentOut d (ascii "AK2" ∷ st01 ∷ st02 ∷ []) ++ segmentOut d (ascii "AK5" ∷ ascii "A" ∷ [])) n o o₁
+pub acceptance-written : {d : Delimiters} (s : Set) {fields : Bytes} {n : ℕ} {o o₁ : Bytes} → fields ≡ fieldsOut d (field (s .header) 1 ∷ controlOf s ∷ [])
+    → Wrote (ascii "AK2" ++ fields ++ d .terminator ∷ segmentOut d (ascii "AK5" ∷ ascii "A" ∷ [])) n o o₁
     → Tells d (acceptance s) (record { length = n; segments = 2 }) o o₁
 unfolding acceptance out
-acceptance-written {d} s p q w = record { text = rw append-nil (rw (p, q) at w); number = omega arith }
+acceptance-written {d} s {fields} p w =
+    record { text = rw (append-nil, append-assoc (ascii "AK2" ++ fieldsOut d (field (s .header) 1 ∷ controlOf s ∷ [])) (d .terminator ∷ [])) (rw p at w); number = omega arith }
 
 -- and are as long as ST02 and fifteen bytes, where ST01 has three
 pub acceptance-measured : {d : Delimiters} (s : Set) {st02 : Bytes} → length (field (s .header) 1) ≡ 3 → st02 ≡ controlOf s

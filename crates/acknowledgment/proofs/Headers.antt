@@ -1,22 +1,24 @@
 -- The header of a set that can be answered: its id has two bytes and ST01 three, so ST01 and ST02 start three and seven bytes on.
 use mathlib.Core.Path.{_≡_, refl, sym, ap, _∙_}
 use mathlib.Core.Bool.{Bool, true, false}
-use mathlib.Core.List.{[], _∷_}
+use mathlib.Core.List.{[], _∷_, _++_, append-nil}
 use Prim.Native.Nat.{ℕ, zero, suc, _+_, _-_, _<_, _≤_}
 use native.Mathlib.Nat.{le-of-suc-le-suc, not-suc-le-zero, sub-zero}
 use native.Mathlib.Omega.{arith}
 use lib.Dec.{eqb}
 use lib.ListN.{length, getD, take, drop, length-take, length-drop}
-use lib.Seq.{drop-drop, take-take, take-nil}
+use lib.Seq.{drop-drop, drop-at, take-take, take-nil, take-append-add}
 use Rattle.rules.specs.Base.{Bytes, if_then_else_}
 use Rattle.rules.specs.Cutting.{field, split, pieces}
+use Rattle.rules.specs.Response.{fieldsOut}
 use Rattle.rules.specs.declared.Delimiters.{Delimiters}
 use Rattle.text.specs.Text.{indexWhere, indexOf, part}
 use Rattle.text.proofs.Search.{find-le}
+use Rattle.segments.proofs.Cursor.{found-cut}
 use Rattle.segments.proofs.Fields.{FieldAt, field-first, field-at}
 use Rattle.segments.proofs.Pieces.{segments-at, pieces-at}
 use Rattle.sets.specs.Places.{controlAt}
-use Rattle.sets.proofs.Headers.{kind-at, kind-length, kind-ends, number-at, header-long}
+use Rattle.sets.proofs.Headers.{field-ends, id-ends, kind-at, kind-length, kind-ends, number-at, header-long}
 use Rattle.register.specs.Fields.{fieldIn}
 use Rattle.register.proofs.Fields.{piece-field}
 use Rattle.acknowledgment.specs.Surveys.{headerAt, Headed}
@@ -122,3 +124,35 @@ module _ {d : Delimiters} {body : Bytes} {at : ℕ} (h : Headed d body at) where
       let z : 7 + indexOf e (drop 7 bytes) - 7 ≡ indexOf e (drop 7 bytes) = omega arith in
       rw (← drop-drop 7 at body)
       (piece-field d 0 (drop 7 left) ∙ first-field ∙ sym (control-field ∙ field-at number-place refl ∙ rw z))
+
+  -- where ST02 ends, by how long it is
+  number-end : length (controlAt d body at) ≡ indexOf e (drop 7 bytes)
+  number-end = omega (arith, ap length control-field, field-ends number-place (omega (arith, size-is, header-size)))
+
+  -- what follows the id
+  elements : drop 2 bytes ≡ e ∷ (field (split e bytes) 1 ++ e ∷ drop 7 bytes)
+  elements =
+      let id = found-cut e bytes 0 2 (id-ends d bytes (h .named)) (omega (arith, size-is, header-size)) in
+      let kind = found-cut e bytes 3 6 kind-end (omega (arith, size-is, header-size)) in
+      let short : length (take 2 bytes) ≡ 2 = omega (arith, length-take 2 bytes, size-is, header-size) in
+      ap (drop 2) id ∙ drop-at (take 2 bytes) (e ∷ drop 3 bytes) 2 short
+      ∙ ap (λ (l : Bytes). e ∷ l) (kind ∙ ap (λ (l : Bytes). l ++ e ∷ drop 7 bytes) (sym (field-at kind-place kind-end)))
+
+  -- ST01 and ST02, each after its separator
+  pub header-fields : (end : ℕ) → end ≡ at + 7 + length (controlAt d body at)
+      → take (end - (at + 2)) (drop (at + 2) body) ≡ fieldsOut d (field (headerAt d body at) 1 ∷ controlAt d body at ∷ [])
+  unfolding fieldsOut
+  header-fields end q =
+      let c = length (controlAt d body at) in
+      let k : end - (at + 2) ≡ 5 + c = omega arith in
+      let fits : 5 + c ≤ size - 2 = omega (arith, number-end, size-is, header-size, find-le e bytes 7 (omega (arith, size-is, header-size))) in
+      let inside : take (5 + c) (drop 2 left) ≡ take (5 + c) (drop 2 bytes) = rw (drop-take 2 size left, take-take (5 + c) (size - 2) (drop 2 left) fits) in
+      let kind = field (split e bytes) 1 in
+      let long : 5 + c ≡ length (e ∷ kind) + (1 + c) = omega (arith, header-three) in
+      let z : 7 + indexOf e (drop 7 bytes) - 7 ≡ c = omega (arith, number-end) in
+      let number : take c (drop 7 bytes) ≡ controlAt d body at = sym (control-field ∙ field-at number-place refl ∙ ap (λ (n : ℕ). take n (drop 7 bytes)) z) in
+      rw (k, ← drop-drop 2 at body)
+      (inside
+      ∙ rw (elements, long)
+      (take-append-add (e ∷ kind) (e ∷ drop 7 bytes) (1 + c)
+      ∙ ap (λ (l : Bytes). e ∷ (kind ++ l)) (take-append-add (e ∷ []) (drop 7 bytes) c ∙ rw (number, append-nil))))

@@ -1,11 +1,12 @@
 // One set of a group: whether it has a code, and its block in the response: AK2, its notes, AK5.
 ghost use mathlib.Core.Path.{_≡_};
 ghost use mathlib.Core.Bool.{false, not};
-ghost use mathlib.Core.List.{List, []};
+ghost use mathlib.Core.List.{List, [], _∷_};
 ghost use mathlib.Core.Option.{Option};
 ghost use Prim.Native.Nat.{ℕ, _+_, _<_, _≤_};
 ghost use lib.ListN.{length};
 ghost use Rattle.rules.specs.Base.{Bytes, null, isNone, member};
+ghost use Rattle.rules.specs.Cutting.{field};
 ghost use Rattle.rules.specs.Tables.{Table};
 ghost use Rattle.rules.specs.Segments.{Note};
 ghost use Rattle.rules.specs.Sets.{controlOf, notesIn, setCodes, accepted};
@@ -19,7 +20,7 @@ ghost use Rattle.writing.specs.Over.{sat};
 ghost use Rattle.notes.specs.Saying.{Tells};
 ghost use Rattle.acknowledgment.specs.Writers.{TellsFrom, Measures};
 ghost use Rattle.acknowledgment.specs.Received.{Scoped, Ordered, receivedAt, setOf, ReceivedIs, reportOf, tableBy};
-ghost use Rattle.acknowledgment.specs.Surveys.{setHere, reportAt, Marked, acceptance, Headed, closedWell, Sighted};
+ghost use Rattle.acknowledgment.specs.Surveys.{setHere, reportAt, headerAt, Marked, acceptance, Headed, closedWell, Sighted};
 use guides::Scope;
 use guides::TableAt;
 use look::Look;
@@ -116,6 +117,16 @@ pub(crate) fn control_of(body: &[u8], d: Delimiters, at: usize) -> &[u8]
     &body[start..end]
 }
 
+// ST01 and ST02 of the header that starts at `at`, each after its separator.
+fn fields_of(body: &[u8], d: Delimiters, at: usize) -> &[u8]
+    requires { ⌜ Headed d (now body) at ⌝ }
+    ensures { λ r. ⌜ now r ≡ law.fieldsOut d (field (headerAt d (now (body .entry)) at) 1 ∷ controlAt d (now (body .entry)) at ∷ []) ⌝ }
+{
+    let start = at + 2;
+    let end = register::field_end(body, d, at + 7);
+    &body[start..end]
+}
+
 // The trailer of a set at a place, with this control number, is as it should be.
 fn is_closed_well(body: &[u8], d: Delimiters, place: SetAt, control: &[u8]) -> bool
     requires { ⌜ 0 < place .end ⌝ }
@@ -208,7 +219,7 @@ fn put_accepted(out: &mut [u8], body: &[u8], d: Delimiters, at: usize) -> Told
     ensures { λ r. ⌜ Tells d (acceptance (setHere d (now (body .entry)) at)) r (now (out .entry)) (now (out .exit)) ⌝ }
 {
     Told {
-        length: blocks::put_acceptance(out, d, kind_of(body, at), control_of(body, d, at)),
+        length: blocks::put_acceptance(out, d, fields_of(body, d, at)),
         segments: 2,
     }
 }

@@ -62,16 +62,15 @@ pub fn add_ak5(out: &mut [u8], n: usize, d: Delimiters, codes: Codes) -> usize
     writing::add_byte(out, n, d.terminator)
 }
 
-// AK2 and AK5 of an accepted set with this ST01 and ST02, from the start of what is lent.
-pub fn put_acceptance(out: &mut [u8], d: Delimiters, st01: &[u8], st02: &[u8]) -> usize
-    ensures { λ r. ⌜ Wrote (segmentOut d (ascii "AK2" ∷ now (st01 .entry) ∷ now (st02 .entry) ∷ []) ++ segmentOut d (ascii "AK5" ∷ ascii "A" ∷ [])) r (now (out .entry)) (now (out .exit)) ⌝ }
+// AK2 and AK5 of an accepted set, from the start of what is lent; ST01 and ST02 are given as they stand in its header, each after its separator.
+pub fn put_acceptance(out: &mut [u8], d: Delimiters, fields: &[u8]) -> usize
+    ensures { λ r. ⌜ Wrote (ascii "AK2" ++ now (fields .entry) ++ d .terminator ∷ segmentOut d (ascii "AK5" ∷ ascii "A" ∷ [])) r (now (out .entry)) (now (out .exit)) ⌝ }
 {
     let e = d.element;
     let t = d.terminator;
     let ak5 = [t, b'A', b'K', b'5', e, b'A', t];
     let n = writing::add_bytes(out, 0, &rules::AK2);
-    let n = writing::add_field(out, n, d, st01);
-    let n = writing::add_field(out, n, d, st02);
+    let n = writing::add_bytes(out, n, fields);
     writing::add_bytes(out, n, &ak5)
 }
 

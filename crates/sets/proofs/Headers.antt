@@ -39,12 +39,13 @@ module _ (d : Delimiters) (s : Bytes) (named : isST (split (d .element) s) ≡ t
   abbrev e : ℕ
   e = d .element
 
-  pub kind-at : FieldAt e s 1 3
-  kind-at =
-      let f = field-first {e = e} {s = s} in
+  pub id-ends : 2 ≡ 0 + indexOf e (drop 0 s)
+  id-ends =
       let two = ap length (same→eq (field (split e s) 0) (ascii "ST") named) in
-      let p : 2 ≡ 0 + indexOf e (drop 0 s) = omega (arith, field-ends f (omega arith), two) in
-      field-next f p
+      omega (arith, field-ends (field-first {e = e} {s = s}) (omega arith), two)
+
+  pub kind-at : FieldAt e s 1 3
+  kind-at = field-next (field-first {e = e} {s = s}) id-ends
 
   -- a header that can be answered
   module _ (good : goodST d (split e s) ≡ true) where
