@@ -68,10 +68,10 @@ apart-of i u =
     or-left (eqb (d .element) (d .terminator)) false (or-right (eqb (d .element) (d .component)) _ apart)
 
 -- with the directory and the rows of document 01 and the scope of its GS it has all that the writer asks for
-pub answerable : (i : Bytes) (call : Call) {d : Delimiters} {f : GroupAt} {ids : List (List ℕ)} {rows : Guide} {scope : Scope}
-    → (refusal i call ≡ 0) × ((d ≡ delimiters i) × GroupIs d i f) → ids ≡ directoryRows → rows ≡ allRows
-    → scope ≡ scopeIn (split (d .element) (part i (f .gs) (f .«gs_end»))) → Answerable d i f ids rows scope
-answerable i call (e, (q, w)) p r s =
+pub answerable : (i : Bytes) (call : Call) {d : Delimiters} {f : GroupAt} {scope : Scope}
+    → (refusal i call ≡ 0) × ((d ≡ delimiters i) × GroupIs d i f)
+    → scope ≡ scopeIn (split (d .element) (part i (f .gs) (f .«gs_end»))) → Answerable d i f directoryRows allRows scope
+answerable i call (e, (q, w)) s =
     let u = unrefused i call e in
     record {
       cut = q;
@@ -80,9 +80,9 @@ answerable i call (e, (q, w)) p r s =
       short = short-of i u;
       apart = rw q (apart-of i u);
       scoped = s;
-      tables = rw (r, s) (table-stands _);
-      ordered = rw (p, r, s) (table-orderly _);
-      table = rw (p, r, s) (table-chosen _);
+      tables = rw s (table-stands _);
+      ordered = rw s (table-orderly _);
+      table = rw s (table-chosen _);
     }
 
 -- 3. The answer and its outcome.

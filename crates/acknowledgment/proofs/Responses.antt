@@ -19,6 +19,8 @@ use Rattle.rules.proofs.Facts.{reports-count}
 use Rattle.rules.proofs.Lengths.{transaction-counted, out-cons, length-out-append}
 use Rattle.tables.specs.Reading.{Guide}
 use Rattle.guides.specs.Choice.{scopeIn}
+use Rattle.guides.specs.Encoded.{directoryRows}
+use Rattle.guides.proofs.Chosen.{allRows}
 use Rattle.guides.specs.declared.Scope.{Scope}
 use Rattle.text.specs.Text.{part}
 use Rattle.look.specs.Bytes.{validBytes}
@@ -62,18 +64,20 @@ group-at {d} {i} {f = f} h p q r = h .group ∙ rw (p, q, r, trailer-at (f .clos
     trailer-at true = refl
     trailer-at false = refl
 
+-- the tables as they are read are those of document 01
+pub by-tables : {d : Delimiters} {i : Bytes} {f : GroupAt} {ids : List (List ℕ)} {rows : Guide} {scope : Scope} → ids ≡ directoryRows → rows ≡ allRows
+    → Answerable d i f directoryRows allRows scope → Answerable d i f ids rows scope
+by-tables p q a = rw (p, q) a
+
 -- what a look at the sets asks of the body
-pub sets-open : {d : Delimiters} {i body : Bytes} {f : GroupAt} {ids : List (List ℕ)} {valid : List Bool} {rows : Guide} {scope : Scope} {starts marks : List ℕ}
-    → Answerable d i f ids rows scope → body ≡ part i (f .body) (f .«body_end») → valid ≡ validBytes d → length starts ≡ 5462 → length marks ≡ 5462
-    → Open d body valid rows scope starts marks
-sets-open a q v l m = record {
+pub sets-open : {d : Delimiters} {i body : Bytes} {f : GroupAt} {ids : List (List ℕ)} {valid : List Bool} {rows : Guide} {scope : Scope}
+    → Answerable d i f ids rows scope → body ≡ part i (f .body) (f .«body_end») → valid ≡ validBytes d → Open d body valid rows scope
+sets-open a q v = record {
   bytes = v;
   apart = a .apart;
   passed = rw q (a .passed);
   short = rw q (simp (length-take, length-drop) (omega (arith, a .short)));
   tables = a .tables;
-  places = l;
-  marked = m;
 }
 
 -- ST to AK9, by the reports of the sets and their numbers

@@ -82,13 +82,13 @@ pub record Seeing (d : Delimiters) (table : Set → Option Table) (body : Bytes)
   pub entered : Entered d body starts links k
   pub few : length (setsOf (segments d body)) ≤ 5461
   pub among : a ≤ k
-  pub places : length starts ≡ 5462
-  pub marked : length marks ≡ 5462
+  pub places : length (setsOf (segments d body)) ≤ length starts
+  pub marked : length (setsOf (segments d body)) ≤ length marks
   pub linked : slotOf (length (setsOf (segments d body))) 0 ≤ length links
 
-pub seeing-start : {d : Delimiters} (table : Set → Option Table) {body : Bytes} {valid : List Bool} {rows : Guide} {scope : Scope} {starts marks : List ℕ} (links : List ℕ)
-    → Open d body valid rows scope starts marks → Cleared d body links → Seeing d table body starts marks links 0 0 0
-seeing-start {d} table {body} {starts = starts} {marks = marks} links o c = record {
+pub seeing-start : {d : Delimiters} (table : Set → Option Table) {body : Bytes} {valid : List Bool} {rows : Guide} {scope : Scope} {starts marks links : List ℕ}
+    → Open d body valid rows scope → Cleared d body starts marks links → Seeing d table body starts marks links 0 0 0
+seeing-start {d} table {body} {starts = starts} {links = links} o c = record {
   rest = sym (remaining-all d table body);
   received = omega arith;
   allowed = rw (remaining-all d table body) (omega arith);
@@ -98,15 +98,23 @@ seeing-start {d} table {body} {starts = starts} {marks = marks} links o c = reco
   entered = entered-none d body starts links (c .none);
   few = omega (arith, sets-number d body (o .passed .headers), o .short);
   among = omega arith;
-  places = o .places;
-  marked = o .marked;
-  linked = c .room;
+  places = c .places;
+  marked = c .marked;
+  linked = c .linked;
 }
 
--- the links of an array of zeros that is long enough for the sets of a body
-pub links-cleared : {d : Delimiters} {body : Bytes} {valid : List Bool} {rows : Guide} {scope : Scope} {starts marks : List ℕ} (n : ℕ)
-    → Open d body valid rows scope starts marks → 12300 + 4 * length body ≤ 12 * n → Cleared d body (replicate n 0)
-links-cleared {d} {body} n o h = record { none = zeros-at n; room = omega (arith, sets-number d body (o .passed .headers), length-replicate {A = ℕ} n 0) }
+-- arrays of zeros have room for the sets of a body that is not too long for them
+pub cleared : {d : Delimiters} {body : Bytes} (n : ℕ) → good d (setsOf (segments d body)) ≡ true → length body < 12 * n
+    → Cleared d body (replicate n 0) (replicate n 0) (replicate (1024 + 4 * n) 0)
+cleared {d} {body} n g h =
+    let few = sets-number d body g in
+    let many = length-replicate {A = ℕ} n 0 in
+    record {
+      none = zeros-at (1024 + 4 * n);
+      places = omega arith;
+      marked = omega arith;
+      linked = omega (arith, length-replicate {A = ℕ} (1024 + 4 * n) 0);
+    }
 
 module _ {d : Delimiters} {table : Set → Option Table} {body : Bytes} {starts marks links : List ℕ} {k a at : ℕ}
     (s : Seeing d table body starts marks links k a at) where
@@ -125,17 +133,19 @@ module _ {d : Delimiters} {table : Set → Option Table} {body : Bytes} {starts 
       record { inside = h; named = st; good = all-head (λ x. goodST d (x .header)) _ _ (rw (here, st) at (s .headers)) }
 
   -- there is room for it
-  pub seeing-room : {r : SetAt} → SetIs d body at r → k < 5461
-  seeing-room i = omega (arith, ap length (i .first), s .received, s .few)
+  pub seeing-room : {r : SetAt} → SetIs d body at r → (k < 5461) × ((k < length starts) × (k < length marks))
+  seeing-room i =
+      let more = ap length (i .first) in
+      (omega (arith, s .received, s .few), (omega (arith, s .received, s .places), omega (arith, s .received, s .marked)))
 
   pub seeing-enter : at < length body → length body ≤ 65536 → (Entered d body starts links k) × Room starts links k at
   seeing-enter h short =
       let room = seeing-room (seeing-set h refl) in (
         s .entered,
         record {
-          start = omega (arith, s .places);
+          start = room .1 .0;
           link = omega (arith, s .linked, ap length ((seeing-set h refl) .first), s .received);
-          number = omega arith;
+          number = omega (arith, room .0);
           place = omega arith;
         },
       )
@@ -151,13 +161,13 @@ module _ {d : Delimiters} {table : Set → Option Table} {body : Bytes} {starts 
       )
       (s .seen j h)
 
-  seen-here : (m : ℕ) → k < 5461 → at < length body → Marked d table body at (controlsAt d body (take k starts)) m
+  seen-here : (m : ℕ) → (k < length starts) × (k < length marks) → at < length body → Marked d table body at (controlsAt d body (take k starts)) m
       → Seen d table body (take k (set starts k at)) k (getD (set starts k at) k 0) (getD (set marks k m) k 0)
   seen-here m room h e =
       rw (
         take-set-le k starts k at (omega arith),
-        getD-set-same starts k at 0 (omega (arith, s .places)),
-        getD-set-same marks k m 0 (omega (arith, s .marked)),
+        getD-set-same starts k at 0 (room .0),
+        getD-set-same marks k m 0 (room .1),
       )
       (record { headed = seeing-headed h; clean = s .clean; rest = s .rest; marked = e })
 
@@ -191,7 +201,7 @@ module _ {d : Delimiters} {table : Set → Option Table} {body : Bytes} {starts 
       let earlier = controlsAt d body (take k starts) in
       let marks-here = seeing-marked h e f in
       let next = remaining-next d table body (take k starts) at i in
-      let more : take (k + 1) (set starts k at) ≡ take k starts ++ at ∷ [] = rw add-one (take-suc-set starts k at (omega (arith, s .places))) in
+      let more : take (k + 1) (set starts k at) ≡ take k starts ++ at ∷ [] = rw add-one (take-suc-set starts k at (room .1 .0)) in
       let onward = remaining d table body (take k starts ++ at ∷ []) (setAt d body at .end) in
       record {
         rest = rw (e .stored, more) (drop-next k (reports d table body) _ _ (s .rest ∙ next));
@@ -201,12 +211,12 @@ module _ {d : Delimiters} {table : Set → Option Table} {body : Bytes} {starts 
             (accepted-next (reportAt d table body at earlier) onward a (eqb m 0) (mark-accepts d (table (setHere d body at)) (setHere d body at) earlier marks-here) ∙ (rw next at (s .allowed)));
         clean = sym (i .strays) ∙ s .clean;
         headers = all-tail (λ x. goodST d (x .header)) _ _ (rw (i .first) at (s .headers));
-        seen = rw (e .stored) (below-more _ k (seen-stays m) (seen-here m room h marks-here));
+        seen = rw (e .stored) (below-more _ k (seen-stays m) (seen-here m (room .1) h marks-here));
         entered = e .entered;
         few = s .few;
         among = rw g (either (λ (x : ℕ). x ≤ k + 1) (eqb m 0) (omega (arith, s .among)) (omega (arith, s .among)));
-        places = rw (e .stored) (length-set starts k at ∙ s .places);
-        marked = length-set marks k m ∙ s .marked;
+        places = rw (e .stored, length-set starts k at) (s .places);
+        marked = rw (length-set marks k m) (s .marked);
         linked = rw p (s .linked);
       }
 
@@ -219,7 +229,7 @@ module _ {d : Delimiters} {table : Set → Option Table} {body : Bytes} {starts 
         received = received ∙ sym (reports-count d table [] (setsOf (segments d body)));
         measured = sofar-end sofar (omega (arith, received, reports-count d table [] (setsOf (segments d body))));
         allowed = omega (arith, rw (remaining-none d table body (take k starts) at h) at (s .allowed));
-        stored = omega (arith, s .few, s .places);
-        marked = omega (arith, s .few, s .marked);
+        stored = omega (arith, s .places);
+        marked = omega (arith, s .marked);
         seen = s .seen;
       }

@@ -129,16 +129,16 @@ pub record Surveyed (d : Delimiters) (table : Set → Option Table) (body : Byte
   pub seen : (k : ℕ) → k < r .sets .received → Seen d table body (take k starts) k (getD starts k 0) (getD marks k 0)
 
 -- The sets of a group can be looked at.
-pub record Open (d : Delimiters) (body : Bytes) (valid : List Bool) (rows : Guide) (scope : Scope) (starts marks : List ℕ) : Type 0 where
+pub record Open (d : Delimiters) (body : Bytes) (valid : List Bool) (rows : Guide) (scope : Scope) : Type 0 where
   pub bytes : valid ≡ validBytes d
   pub apart : eqb (d .element) (d .terminator) ≡ false
   pub passed : Passed d (segments d body)
   pub short : length body ≤ 65536
   pub tables : Scoped rows scope
-  pub places : length starts ≡ 5462
-  pub marked : length marks ≡ 5462
 
--- No set is entered in the links, and there are enough of them.
-pub record Cleared (d : Delimiters) (body : Bytes) (links : List ℕ) : Type 0 where
+-- No set is entered in the links, and there is room for every set.
+pub record Cleared (d : Delimiters) (body : Bytes) (starts marks links : List ℕ) : Type 0 where
   pub none : (s : ℕ) → getD links s 0 ≡ 0
-  pub room : slotOf (length (setsOf (segments d body))) 0 ≤ length links
+  pub places : length (setsOf (segments d body)) ≤ length starts
+  pub marked : length (setsOf (segments d body)) ≤ length marks
+  pub linked : slotOf (length (setsOf (segments d body))) 0 ≤ length links

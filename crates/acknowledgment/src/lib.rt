@@ -15,7 +15,7 @@ mod response;
 mod set_block;
 mod survey;
 
-// The answer to a sound interchange, by the tables that its GS gives it.
+// The answer to a sound interchange, by the scope that its GS gives it.
 fn answer_group(
     out: &mut [u8],
     i: &[u8],
@@ -29,9 +29,7 @@ fn answer_group(
     let gs = text::part(i, group.gs, group.gs_end);
     let scope = guides::scope_of(gs, delimiters);
     let reading = Reading { delimiters, scope };
-    let directory = guides::directory();
-    let rows = guides::rows();
-    response::respond(out, i, group, reading, &directory, &rows, call)
+    response::respond(out, i, group, reading, call)
 }
 
 // The answer to one interchange.

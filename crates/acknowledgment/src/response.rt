@@ -1,22 +1,29 @@
 // The response: its transaction set, with a block for each set of the group, in its envelope.
 ghost use mathlib.Core.Path.{_≡_};
 ghost use mathlib.Core.List.{List, _++_};
-ghost use Prim.Native.Nat.{_+_};
+ghost use Prim.Native.Nat.{_+_, _≤_};
 ghost use lib.ListN.{length};
 ghost use Rattle.rules.specs.Cutting as cutting;
 ghost use Rattle.rules.specs.Cutting.{Segment};
 ghost use Rattle.rules.specs.Response as law;
 ghost use Rattle.rules.specs.Answers.{fitting, buffer};
+ghost use Rattle.text.specs.Text.{part};
+ghost use Rattle.guides.specs.Encoded.{directoryRows};
+ghost use Rattle.guides.proofs.Chosen.{allRows};
 ghost use Rattle.writing.specs.Over.{From, sat};
 ghost use Rattle.notes.specs.Saying.{Tells};
 ghost use Rattle.acknowledgment.specs.Writers.{Measures, opening, closing, Answerable};
 ghost use Rattle.acknowledgment.specs.Received.{Scoped, tableBy};
-ghost use Rattle.acknowledgment.specs.Surveys.{reports, Surveyed};
+ghost use Rattle.acknowledgment.specs.Surveys.{reports, Surveyed, Cleared};
 use crate::set_block;
 use crate::set_block::MarkedSet;
 use crate::set_block::Reading;
 use crate::survey;
+use crate::survey::FEW_LINKS;
+use crate::survey::FEW_SETS;
+use crate::survey::MOST_LINKS;
 use crate::survey::MOST_SETS;
+use crate::survey::SHORT;
 use crate::survey::Survey;
 use envelope::GroupAt;
 use notes::Told;
@@ -114,17 +121,18 @@ fn response_length(
     )
 }
 
-// The response where it fits: the sets are looked at, which tells its length, and then it is written.
-pub(crate) fn respond(
+// The response where it fits: the sets are looked at, which tells its length, and then it is written. There is room for the sets, and none is entered yet.
+fn respond_over(
     out: &mut [u8],
     i: &[u8],
     f: GroupAt,
     reading: Reading,
-    directory: &[[u8; 3]],
-    rows: &[[u16; 6]],
     call: Call,
+    starts: &mut [u16],
+    marks: &mut [u8],
+    links: &mut [u16],
 ) -> Answer
-    requires { ⌜ Answerable (reading .delimiters) (now i) f (now directory) (now rows) (reading .scope) ⌝ }
+    requires { ⌜ (Answerable (reading .delimiters) (now i) f directoryRows allRows (reading .scope)) × Cleared (reading .delimiters) (part (now i) (f .body) (f .«body_end»)) (now starts) (now marks) (now links) ⌝ }
     ensures { λ r. ⌜ (r ≡ fitting (law.response (now (i .entry)) call) (length (now (out .entry)))) × (now (out .exit) ≡ buffer r (law.response (now (i .entry)) call) (now (out .entry))) ⌝ }
 {
     let d = reading.delimiters;
@@ -132,16 +140,17 @@ pub(crate) fn respond(
     let body = text::part(i, f.body, f.body_end);
     let ge = text::part(i, f.ge, f.ge_end);
     let valid = look::valid_bytes(d);
-    let mut starts: [u16; MOST_SETS] = [0; MOST_SETS];
-    let mut marks: [u8; MOST_SETS] = [0; MOST_SETS];
+    let directory = guides::directory();
+    let rows = guides::rows();
     let survey = survey::survey_sets(
         body,
         reading,
         &valid,
-        directory,
-        rows,
-        &mut starts,
-        &mut marks,
+        &directory,
+        &rows,
+        starts,
+        marks,
+        links,
     );
     let scope = reading.scope;
     let sets = survey.sets;
@@ -157,12 +166,64 @@ pub(crate) fn respond(
         &mut out[rest..],
         body,
         reading,
-        directory,
-        rows,
-        &starts,
-        &marks,
+        &directory,
+        &rows,
+        starts,
+        marks,
         survey,
     );
     let n = writing::joined(n, told.length);
     Answer::Written(add_closing(out, n, d, summary, told.segments, call.control))
+}
+
+// The same with room for the sets of a short group.
+fn respond_short(out: &mut [u8], i: &[u8], f: GroupAt, reading: Reading, call: Call) -> Answer
+    requires { ⌜ (Answerable (reading .delimiters) (now i) f directoryRows allRows (reading .scope)) × (length (part (now i) (f .body) (f .«body_end»)) ≤ 4096) ⌝ }
+    ensures { λ r. ⌜ (r ≡ fitting (law.response (now (i .entry)) call) (length (now (out .entry)))) × (now (out .exit) ≡ buffer r (law.response (now (i .entry)) call) (now (out .entry))) ⌝ }
+{
+    let mut starts: [u16; FEW_SETS] = [0; FEW_SETS];
+    let mut marks: [u8; FEW_SETS] = [0; FEW_SETS];
+    let mut links: [u16; FEW_LINKS] = [0; FEW_LINKS];
+    respond_over(
+        out,
+        i,
+        f,
+        reading,
+        call,
+        &mut starts,
+        &mut marks,
+        &mut links,
+    )
+}
+
+// The same with room for as many sets as there can be.
+fn respond_long(out: &mut [u8], i: &[u8], f: GroupAt, reading: Reading, call: Call) -> Answer
+    requires { ⌜ Answerable (reading .delimiters) (now i) f directoryRows allRows (reading .scope) ⌝ }
+    ensures { λ r. ⌜ (r ≡ fitting (law.response (now (i .entry)) call) (length (now (out .entry)))) × (now (out .exit) ≡ buffer r (law.response (now (i .entry)) call) (now (out .entry))) ⌝ }
+{
+    let mut starts: [u16; MOST_SETS] = [0; MOST_SETS];
+    let mut marks: [u8; MOST_SETS] = [0; MOST_SETS];
+    let mut links: [u16; MOST_LINKS] = [0; MOST_LINKS];
+    respond_over(
+        out,
+        i,
+        f,
+        reading,
+        call,
+        &mut starts,
+        &mut marks,
+        &mut links,
+    )
+}
+
+// The response where it fits.
+pub(crate) fn respond(out: &mut [u8], i: &[u8], f: GroupAt, reading: Reading, call: Call) -> Answer
+    requires { ⌜ Answerable (reading .delimiters) (now i) f directoryRows allRows (reading .scope) ⌝ }
+    ensures { λ r. ⌜ (r ≡ fitting (law.response (now (i .entry)) call) (length (now (out .entry)))) × (now (out .exit) ≡ buffer r (law.response (now (i .entry)) call) (now (out .entry))) ⌝ }
+{
+    let body = text::part(i, f.body, f.body_end);
+    if body.len() <= SHORT {
+        return respond_short(out, i, f, reading, call);
+    }
+    respond_long(out, i, f, reading, call)
 }

@@ -1,7 +1,5 @@
 // One look at the sets of a group: where each starts, its mark, and what its block comes to.
 ghost use mathlib.Core.Path.{_≡_};
-ghost use Prim.Native.Nat.{_≤_};
-ghost use lib.ListN.{length};
 ghost use Rattle.sets.specs.Places.{controlAt};
 ghost use Rattle.register.proofs.Entered.{Entered};
 ghost use Rattle.acknowledgment.specs.Received.{Ordered, tableBy};
@@ -20,12 +18,14 @@ use verdicts::Tally;
 pub const MOST_SETS: usize = rules::Interchange::LONGEST / 12 + 1;
 
 // The links of the buckets, and four for each set.
-const LINKS: usize = register::BUCKETS + 4 * MOST_SETS;
+pub const MOST_LINKS: usize = register::BUCKETS + 4 * MOST_SETS;
 
-// A group of so many bytes at most has few sets, and fewer links to clear.
-const SHORT: usize = 4096;
+// A group of so many bytes at most has few sets, and less is cleared for them.
+pub const SHORT: usize = 4096;
 
-const FEW_LINKS: usize = register::BUCKETS + 4 * (SHORT / 12 + 1);
+pub const FEW_SETS: usize = SHORT / 12 + 1;
+
+pub const FEW_LINKS: usize = register::BUCKETS + 4 * FEW_SETS;
 
 // How many sets there are, and what the blocks of all come to.
 pub struct Survey {
@@ -105,8 +105,8 @@ fn survey_set(
     }
 }
 
-// One look at each set of a group; no set is entered yet.
-fn survey_over(
+// One look at each set of a group; there is room for them, and none is entered yet.
+pub(crate) fn survey_sets(
     body: &[u8],
     reading: Reading,
     valid: &[bool; 256],
@@ -116,7 +116,7 @@ fn survey_over(
     marks: &mut [u8],
     links: &mut [u16],
 ) -> Survey
-    requires { ⌜ (Open (reading .delimiters) (now body) (now valid) (now rows) (reading .scope) (now starts) (now marks)) × ((Ordered (now directory) (now rows) (reading .scope)) × Cleared (reading .delimiters) (now body) (now links)) ⌝ }
+    requires { ⌜ (Open (reading .delimiters) (now body) (now valid) (now rows) (reading .scope)) × ((Ordered (now directory) (now rows) (reading .scope)) × Cleared (reading .delimiters) (now body) (now starts) (now marks) (now links)) ⌝ }
     ensures { λ r. ⌜ Surveyed (reading .delimiters) (tableBy (now (directory .entry)) (now (rows .entry)) (reading .scope)) (now (body .entry)) (now (starts .exit)) (now (marks .exit)) r ⌝ }
 {
     let d = reading.delimiters;
@@ -142,75 +142,4 @@ fn survey_over(
         sets: Tally { received, accepted },
         blocks: Told { length, segments },
     }
-}
-
-// The same with links for the sets of a short group.
-fn survey_short(
-    body: &[u8],
-    reading: Reading,
-    valid: &[bool; 256],
-    directory: &[[u8; 3]],
-    rows: &[[u16; 6]],
-    starts: &mut [u16],
-    marks: &mut [u8],
-) -> Survey
-    requires { ⌜ (Open (reading .delimiters) (now body) (now valid) (now rows) (reading .scope) (now starts) (now marks)) × ((Ordered (now directory) (now rows) (reading .scope)) × (length (now body) ≤ 4096)) ⌝ }
-    ensures { λ r. ⌜ Surveyed (reading .delimiters) (tableBy (now (directory .entry)) (now (rows .entry)) (reading .scope)) (now (body .entry)) (now (starts .exit)) (now (marks .exit)) r ⌝ }
-{
-    let mut links: [u16; FEW_LINKS] = [0; FEW_LINKS];
-    survey_over(
-        body,
-        reading,
-        valid,
-        directory,
-        rows,
-        starts,
-        marks,
-        &mut links,
-    )
-}
-
-// The same with links for as many sets as there can be.
-fn survey_long(
-    body: &[u8],
-    reading: Reading,
-    valid: &[bool; 256],
-    directory: &[[u8; 3]],
-    rows: &[[u16; 6]],
-    starts: &mut [u16],
-    marks: &mut [u8],
-) -> Survey
-    requires { ⌜ (Open (reading .delimiters) (now body) (now valid) (now rows) (reading .scope) (now starts) (now marks)) × Ordered (now directory) (now rows) (reading .scope) ⌝ }
-    ensures { λ r. ⌜ Surveyed (reading .delimiters) (tableBy (now (directory .entry)) (now (rows .entry)) (reading .scope)) (now (body .entry)) (now (starts .exit)) (now (marks .exit)) r ⌝ }
-{
-    let mut links: [u16; LINKS] = [0; LINKS];
-    survey_over(
-        body,
-        reading,
-        valid,
-        directory,
-        rows,
-        starts,
-        marks,
-        &mut links,
-    )
-}
-
-// One look at each set of a group.
-pub(crate) fn survey_sets(
-    body: &[u8],
-    reading: Reading,
-    valid: &[bool; 256],
-    directory: &[[u8; 3]],
-    rows: &[[u16; 6]],
-    starts: &mut [u16],
-    marks: &mut [u8],
-) -> Survey
-    requires { ⌜ (Open (reading .delimiters) (now body) (now valid) (now rows) (reading .scope) (now starts) (now marks)) × Ordered (now directory) (now rows) (reading .scope) ⌝ }
-    ensures { λ r. ⌜ Surveyed (reading .delimiters) (tableBy (now (directory .entry)) (now (rows .entry)) (reading .scope)) (now (body .entry)) (now (starts .exit)) (now (marks .exit)) r ⌝ }
-{
-    if body.len() <= SHORT {
-        return survey_short(body, reading, valid, directory, rows, starts, marks);
-    }
-    survey_long(body, reading, valid, directory, rows, starts, marks)
 }

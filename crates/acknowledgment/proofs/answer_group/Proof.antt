@@ -1,4 +1,4 @@
--- `acknowledgment::answer_group` meets its contract: the directory and the rows are those that document 01 has, and the scope is that of GS.
+-- `acknowledgment::answer_group` meets its contract: the scope is that of GS.
 use mathlib.Core.Path.{_∙_}
 use Rattle.acknowledgment.proofs.Answering.{answerable, allowed}
 use borrow.Author.Needs.{needs}
@@ -7,27 +7,14 @@ use Rattle.acknowledgment.proofs.answer_group.Tie as tie
 
 respond-requires : tie.Need-respond-requires
 respond-requires c κs =
-    let rows = c .before .before .before in
-    let scope = rows .before .before in
+    let scope = c .before in
     let entry = scope .before .before .before .before in
-    answerable _ _ (entry .pre) (rows .before .directory .ensures) (rows .rows .ensures) (scope .scope-of .ensures ∙ rw (scope .before .part .ensures))
+    answerable _ _ (entry .pre) (scope .scope-of .ensures ∙ rw (scope .before .part .ensures))
 
 returns : tie.Need-returns
 returns c =
     let answer = c .before .before in
-    let scope = answer .before .before .before .before .before .before in
-    allowed _ _ _ (scope .before .before .before .before .pre .0) (answer .respond .ensures)
+    allowed _ _ _ (answer .before .before .before .before .before .before .pre .0) (answer .respond .ensures)
 
 pub answer-group-spec : {M : Type 1} → statement M
-answer-group-spec =
-    tie.close
-    (tie.spec
-    (λ c κs. search needs)
-    (λ c κs. search needs)
-    (λ c κs. search needs)
-    (λ c κs. search needs)
-    (λ c. search needs)
-    (λ c. search needs)
-    respond-requires
-    (λ c. search needs)
-    returns)
+answer-group-spec = tie.close (tie.spec (λ c κs. search needs) (λ c κs. search needs) respond-requires (λ c. search needs) returns)

@@ -1,5 +1,4 @@
 -- `acknowledgment::survey::mark_of` meets its contract.
-use borrow.Author.Needs.{needs}
 use Rattle.acknowledgment.proofs.survey.mark_of.Statement.{statement}
 use Rattle.acknowledgment.proofs.survey.mark_of.Tie as tie
 
