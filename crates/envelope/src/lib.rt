@@ -74,6 +74,13 @@ struct Trailer {
 fn is_of_envelope(s: &[u8], e: u8) -> bool
     ensures { λ r. ⌜ r ≡ isEnvelopeName (field (split e (now (s .entry))) 0) ⌝ }
 {
+    if s.len() == 0 {
+        return false;
+    }
+    // Most segments are told apart by their first byte.
+    if (s[0] != ISA[0]) & (s[0] != GS[0]) {
+        return false;
+    }
     if segments::is_named(s, e, &ISA) {
         return true;
     }

@@ -173,6 +173,18 @@ module _ (e : ℕ) (s : Bytes) (i : ℕ) where
         go true q = rw (id-cut h (eqb-true (getD s i 0) e q))
         go false q = rw (id-kept h (eqb-false (getD s i 0) e q))
 
+-- a segment that does not start with the name's first byte
+pub named-other : (e : ℕ) (s name : Bytes) → 0 < length name → (0 < length s → getD s 0 0 ≡ getD name 0 0 → ⊥) → isNamed name (split e s) ≡ false
+named-other e [] name k n = named-short e [] 0 name k (omega arith)
+named-other e (b ∷ s) name k n = go (eqb b e) refl
+  where
+    h : 0 < length (b ∷ s)
+    h = zero-lt-suc (length s)
+
+    go : (c : Bool) → eqb b e ≡ c → isNamed name (split e (b ∷ s)) ≡ false
+    go true q = named-cut e (b ∷ s) 0 name k h (eqb-true b e q)
+    go false q = named-step e (b ∷ s) 0 name false k h (eqb-false b e q) (ne-eqb b (getD name 0 0) (n h))
+
 pub present-length : (l : Bytes) → not (null l) ≡ ltb 0 (length l)
 present-length [] = refl
 present-length (x ∷ l) = sym (lt-ltb 0 (suc (length l)) (zero-lt-suc (length l)))
