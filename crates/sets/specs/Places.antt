@@ -4,9 +4,11 @@ use mathlib.Core.Bool.{true, false}
 use mathlib.Core.List.{List, [], _∷_, map}
 use lib.ListN.{length, drop, getD}
 use Rattle.rules.specs.Base.{Bytes, if_then_else_}
-use Rattle.rules.specs.Cutting.{field, split, pieces, segments}
+use Rattle.rules.specs.Cutting.{Segment, field, split, pieces, segments}
 use Rattle.rules.specs.Sets.{isST, isSE}
 use Rattle.rules.specs.declared.Delimiters.{Delimiters}
+use Rattle.sets.specs.declared.Role.{Role}
+use Rattle.sets.specs.declared.Role.the-variants.{Header, Trailer, Other}
 use Rattle.sets.specs.declared.SetAt.{SetAt}
 
 -- a set of n segments with its SE, and one without
@@ -15,6 +17,10 @@ closedAt start header n trailer end = record { start = start; header = header; t
 
 abbrev pub unclosedAt : ℕ → ℕ → ℕ → ℕ → SetAt
 unclosedAt start header n end = record { start = start; header = header; trailer = end; end = end; closed = false; segments = n }
+
+-- SE, ST or another segment
+unfoldable pub roleOf : Segment → Role
+roleOf s = if isSE s then Trailer else (if isST s then Header else Other)
 
 -- the set whose header goes from start to header, which has n segments so far, and whose next pieces, cut by the separator e, start at the place at
 unfoldable pub setFrom : ℕ → ℕ → ℕ → ℕ → ℕ → List Bytes → SetAt

@@ -5,7 +5,7 @@ ghost use Rattle.rules.specs.Base.{first};
 ghost use Rattle.rules.specs.Cutting as cutting;
 ghost use Rattle.rules.specs.Sets.{isST};
 ghost use Rattle.rules.specs.Refusals.{goodST, setRules};
-ghost use Rattle.sets.specs.Places.{closedAt, unclosedAt, setAt};
+ghost use Rattle.sets.specs.Places.{closedAt, unclosedAt, roleOf, setAt};
 use rules::Delimiters;
 
 // The place of a set.
@@ -58,6 +58,32 @@ impl SetAt {
     }
 }
 
+// What a segment is to the sets: ST opens one, SE closes it.
+enum Role {
+    Header,
+    Trailer,
+    Other,
+}
+
+fn role_of(segment: &[u8], e: u8) -> Role
+    ensures { λ r. ⌜ r ≡ roleOf (cutting.split e (now (segment .entry))) ⌝ }
+{
+    if segment.len() == 0 {
+        return Role::Other;
+    }
+    // Most segments are told apart by their first byte; ST and SE share it.
+    if segment[0] != rules::SE[0] {
+        return Role::Other;
+    }
+    if segments::is_named(segment, e, &rules::SE) {
+        return Role::Trailer;
+    }
+    if segments::is_named(segment, e, &rules::ST) {
+        return Role::Header;
+    }
+    Role::Other
+}
+
 // The set whose header starts at `at`: it goes to its SE, or up to the next ST or the group's end.
 pub fn next_set(body: &[u8], d: Delimiters, at: usize) -> SetAt
     ensures { λ r. ⌜ r ≡ setAt d (now (body .entry)) at ⌝ }
@@ -71,11 +97,14 @@ pub fn next_set(body: &[u8], d: Delimiters, at: usize) -> SetAt
     while next < body.len() {
         let end = text::find(body, next, d.terminator);
         let segment = &body[next..end];
-        if segments::is_named(segment, d.element, &rules::SE) {
-            return SetAt::with_trailer(at, header, segments + 1, next, end + 1);
-        }
-        if segments::is_named(segment, d.element, &rules::ST) {
-            return SetAt::without_trailer(at, header, segments, next);
+        match role_of(segment, d.element) {
+            Role::Trailer => {
+                return SetAt::with_trailer(at, header, segments + 1, next, end + 1);
+            }
+            Role::Header => {
+                return SetAt::without_trailer(at, header, segments, next);
+            }
+            Role::Other => {}
         }
         segments += 1;
         next = end + 1;

@@ -1,23 +1,23 @@
 -- `sets::next_set` meets its contract: from where the set goes on, the pieces that are left decide its end.
 use borrow.Author.Needs.{needs}
-use mathlib.Core.Path.{_≡_, refl, sym, _∙_}
-use mathlib.Core.Bool.{true, false}
+use mathlib.Core.Path.{_≡_, sym, _∙_}
 use Prim.Native.Nat.{_+_, _-_, _≤_}
 use lib.ListN.{length, drop}
 use Rattle.rules.specs.Cutting.{pieces}
 use Rattle.text.proofs.Search.{find-end}
 use Rattle.sets.specs.Places.{setAt, setFrom}
-use Rattle.sets.proofs.Turns.{set-none, set-opens, set-goes, set-ends}
+use Rattle.sets.specs.declared.Role.the-variants.{Header, Trailer, Other}
+use Rattle.sets.proofs.Turns.{set-none, set-opens, set-turn, set-ends}
 use native.Mathlib.Omega.{arith}
 use Rattle.sets.proofs.next_set.Statement.{statement}
 use Rattle.sets.proofs.next_set.Tie as tie
 
 abbrev Inv-loop : tie.InvT-loop
-Inv-loop body d at header segments₀ next₀ t8 t9 segments next =
+Inv-loop body d at header segments₀ next₀ segments next =
     (next ≤ length body + 1) × ((segments ≤ next) × (setAt d body at ≡ setFrom (d .element) at header segments next (pieces (d .terminator) (drop next body))))
 
 abbrev μ-loop : tie.MeasureT-loop
-μ-loop body d at header segments₀ next₀ t8 t9 segments next = length body + 1 - next
+μ-loop body d at header segments₀ next₀ segments next = length body + 1 - next
 
 returns : tie.Need-returns Inv-loop μ-loop
 returns c = c .without-trailer .ensures ∙ sym (set-none _ _ _ (c .before .if1 .taken))
@@ -45,37 +45,35 @@ add-with-trailer-2 c =
 returns-2 : tie.Need-returns-2 Inv-loop μ-loop
 returns-2 c =
     let f = c .before .before .before .before .before in
-    let trailer = sym (c .before .before .is-named .ensures) ∙ c .before .if2 .taken in
+    let role = sym (c .before .enum-told .given .1) ∙ c .before .before .before .role-of .ensures in
     c .with-trailer .ensures
-    ∙ sym (f .before .before .loop .inv .1 .1 ∙ set-goes _ _ _ _ (f .before .loop-test .taken) (f .find2 .ensures) _ _ _ _ true _ trailer refl)
+    ∙ sym (f .before .before .loop .inv .1 .1 ∙ set-turn _ _ _ _ (f .before .loop-test .taken) (f .find2 .ensures) _ _ _ _ Trailer role)
 
 returns-3 : tie.Need-returns-3 Inv-loop μ-loop
 returns-3 c =
-    let f = c .before .before .before .before .before .before .before .before in
-    let trailer = sym (c .before .before .before .before .before .is-named .ensures) ∙ c .before .before .before .before .if2 .left in
-    let header = sym (c .before .before .is-named2 .ensures) ∙ c .before .if3 .taken in
+    let f = c .before .before .before .before .before in
+    let role = sym (c .before .enum-told2 .given .1) ∙ c .before .before .before .role-of .ensures in
     c .without-trailer2 .ensures
-    ∙ sym (f .before .before .loop .inv .1 .1 ∙ set-goes _ _ _ _ (f .before .loop-test .taken) (f .find2 .ensures) _ _ _ _ false true trailer header)
+    ∙ sym (f .before .before .loop .inv .1 .1 ∙ set-turn _ _ _ _ (f .before .loop-test .taken) (f .find2 .ensures) _ _ _ _ Header role)
 
 add-segments : tie.Need-add-segments Inv-loop μ-loop
-add-segments c = let segment = c .before .before .before .before .before .before .before in omega (arith, segment .before .before .loop .inv .1 .0)
+add-segments c = omega (arith, c .before .before .before .before .before .before .loop .inv .1 .0)
 
 add-next-2 : tie.Need-add-next-2 Inv-loop μ-loop
 add-next-2 c =
-    let f = c .before .before .before .before .before .before .before in
+    let f = c .before .before .before .before in
     let within = find-end _ _ _ _ (f .find2 .ensures) (f .before .loop-test .taken) in
     omega arith
 
 loop-again : tie.Need-loop-again Inv-loop μ-loop
 loop-again c =
-    let f = c .before .before .before .before .before .before .before in
+    let f = c .before .before .before .before in
     let within = find-end _ _ _ _ (f .find2 .ensures) (f .before .loop-test .taken) in
-    let trailer = sym (c .before .before .before .before .is-named .ensures) ∙ c .before .before .before .if2 .left in
-    let header = sym (c .before .is-named2 .ensures) ∙ c .if3 .left in (
+    let role = sym (c .enum-told3 .given .1) ∙ c .before .before .role-of .ensures in (
       omega arith,
       (
         omega (arith, f .before .before .loop .inv .1 .0),
-        f .before .before .loop .inv .1 .1 ∙ set-goes _ _ _ _ (f .before .loop-test .taken) (f .find2 .ensures) _ _ _ _ false false trailer header,
+        f .before .before .loop .inv .1 .1 ∙ set-turn _ _ _ _ (f .before .loop-test .taken) (f .find2 .ensures) _ _ _ _ Other role,
       ),
     )
 
@@ -97,16 +95,16 @@ next-set-spec =
     (λ c. search needs)
     (λ c. search needs)
     part-segment-end
-    (λ c. search needs)
     (λ c κs. search needs)
+    (λ c. search needs)
     add-with-trailer
     add-with-trailer-2
     (λ c κs. search needs)
     returns-2
     (λ c. search needs)
     (λ c κs. search needs)
-    (λ c κs. search needs)
     returns-3
+    (λ c. search needs)
     add-segments
     add-next-2
     (λ c. search needs)
