@@ -43,7 +43,7 @@ use Rattle.writing.proofs.Segments.{one, then as next}
 use Rattle.notes.specs.Saying.{Tells}
 use Rattle.notes.specs.declared.Told.{Told}
 use Rattle.acknowledgment.specs.Writers.{TellsFrom, Measures}
-use Rattle.acknowledgment.specs.Received.{tableBy, Scoped, receivedAt, setOf, reportOf, ReceivedIs}
+use Rattle.acknowledgment.specs.Received.{tableBy, Scoped, receivedAt, setOf, reportOf, Untold, ReceivedIs}
 use Rattle.acknowledgment.specs.declared.set_block.ReceivedSet.{ReceivedSet}
 use Rattle.acknowledgment.specs.Surveys.{setHere, reportAt, acceptance}
 
@@ -162,27 +162,30 @@ pub at-start : {d : Delimiters} {body : Bytes} {at : ℕ} {r : SetAt} → SetIs 
 at-start {d} {body} {r = r} is = subst⁻¹ (λ (x : ℕ). SetIs d body x r) (is .starts) is
 
 module _ {d : Delimiters} {body : Bytes} {at : ℕ} {place : SetAt} (q : place ≡ setAt d body at) (is : SetIs d body at place) where
-  pub received-is : {rows : Guide} {set : ReceivedSet} (scope : Scope) (repeated : Bool) → set ≡ receivedAt d scope body place repeated → Scoped rows scope
+  pub received-is : {rows : Guide} {set : ReceivedSet} (scope : Scope) (repeated quiet : Bool) → set ≡ receivedAt d scope body place repeated quiet → Scoped rows scope
       → ReceivedIs d body rows set
-  received-is scope repeated e tables = rw e (record { is = at-start is; stands = tables _ })
+  received-is scope repeated quiet e tables = rw e (record { is = at-start is; stands = tables _ })
 
   -- it has the report of the set at its place
-  report-received : (ids : List (List ℕ)) (rows : Guide) (scope : Scope) (repeated : Bool) (earlier : List Bytes)
-      → reportOf d ids rows body (receivedAt d scope body place repeated) earlier ≡ reportAt d (tableBy ids rows scope) body at earlier
-  report-received ids rows scope repeated earlier =
+  report-received : (ids : List (List ℕ)) (rows : Guide) (scope : Scope) (repeated quiet : Bool) (earlier : List Bytes)
+      → reportOf d ids rows body (receivedAt d scope body place repeated quiet) earlier ≡ reportAt d (tableBy ids rows scope) body at earlier
+  report-received ids rows scope repeated quiet earlier =
       ap (λ (x : ℕ). setReport d (tableAt ids rows (placeOf scope (field (split (d .element) (part body x (place .header))) 1))) earlier (setIn d body x place)) (is .starts)
       ∙ ap (λ (h : Segment). setReport d (tableAt ids rows (placeOf scope (field h 1))) earlier (setIn d body at place)) (sym (is .header))
       ∙ ap (λ (r : SetAt). setReport d (tableBy ids rows scope (setIn d body at r)) earlier (setIn d body at r)) q
 
-  module _ (ids : List (List ℕ)) (rows : Guide) (scope : Scope) (repeated : Bool) {set : ReceivedSet} (e : set ≡ receivedAt d scope body place repeated) where
+  module _ (ids : List (List ℕ)) (rows : Guide) (scope : Scope) (repeated quiet : Bool) {set : ReceivedSet} (e : set ≡ receivedAt d scope body place repeated quiet) where
     -- what is written of it, or measured, is the block of that report
     pub block-received : (earlier : List Bytes) {r : Told} {o o′ : Bytes}
-        → (set .repeated ≡ member (controlOf (setOf d body set)) earlier → Tells d (block (reportOf d ids rows body set earlier)) r o o′)
-        → repeated ≡ member (controlOf (setHere d body at)) earlier
+        → (set .repeated ≡ member (controlOf (setOf d body set)) earlier → Untold d ids rows body set → Tells d (block (reportOf d ids rows body set earlier)) r o o′)
+        → repeated ≡ member (controlOf (setHere d body at)) earlier → (quiet ≡ true → reportAt d (tableBy ids rows scope) body at [] .notes ≡ [])
         → Tells d (block (reportAt d (tableBy ids rows scope) body at earlier)) r o o′
-    block-received earlier w k =
+    unfolding setReport
+    block-received earlier w k u =
         let used : repeated ≡ member (controlOf (setIn d body (place .start) place)) earlier =
         k
         ∙ ap (λ (r : SetAt). member (controlOf (setIn d body at r)) earlier) (sym q)
         ∙ ap (λ (x : ℕ). member (controlOf (setIn d body x place)) earlier) (sym (is .starts)) in
-        rw (← report-received ids rows scope repeated earlier) ((rw e at w) used)
+        let untold : Untold d ids rows body (receivedAt d scope body place repeated quiet) =
+        λ h. ap (λ (r : SetReport). r .notes) (report-received ids rows scope repeated quiet []) ∙ u h in
+        rw (← report-received ids rows scope repeated quiet earlier) ((rw e at w) used untold)

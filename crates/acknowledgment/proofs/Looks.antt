@@ -1,6 +1,6 @@
 -- One look at a set: what it comes to is what is reported of the set.
 use mathlib.Core.Path.{_≡_, refl, sym, ap, _∙_}
-use mathlib.Core.Bool.{Bool, true, false, _&&_, and-true, and-false, not}
+use mathlib.Core.Bool.{Bool, true, false, _&&_, and-true, and-false, not, false≢true}
 use mathlib.Core.List.{List, [], _∷_}
 use mathlib.Core.Option.{Option, none, some}
 use Prim.Native.Nat.{ℕ, _+_, _-_, _<_, _≤_}
@@ -34,10 +34,11 @@ use Rattle.look.specs.Looking.{looked}
 use Rattle.look.proofs.Looking.{look-is}
 use Rattle.look.specs.declared.Look.the-variants.{Quiet, Odd}
 use Rattle.acknowledgment.specs.Received.{tableBy, Scoped, Ordered}
-use Rattle.acknowledgment.specs.Surveys.{setHere, reportAt, headerAt, Headed, closedWell, Sighted, markBy, markOf, SurveyedIs}
+use Rattle.acknowledgment.specs.Surveys.{setHere, reportAt, headerAt, Headed, closedWell, Sighted, SeenIs, markBy, MarkIs, SurveyedIs}
 use Rattle.acknowledgment.proofs.Blocks.{Parts, parts-at, header-here, acceptance-measured, nowhere-rejects, events-are, at-start}
 use Rattle.acknowledgment.proofs.Headers.{header-three}
-use Rattle.acknowledgment.proofs.Reports.{mark-block}
+use Rattle.acknowledgment.proofs.Reports.{no-list, mark-block}
+use Rattle.acknowledgment.specs.declared.set_block.SeenSet.{SeenSet}
 use Rattle.acknowledgment.specs.Writers.{Measures}
 use Rattle.writing.specs.Over.{sat}
 use Rattle.notes.specs.declared.Told.{Told}
@@ -76,6 +77,11 @@ quiet-says false e = (cc, cc)
 odd-says : (place : SetAt) (b : Bool) → Odd ≡ (if b then Quiet place else Odd) → b ≡ false
 odd-says place true e = cc
 odd-says place false e = refl
+
+-- a set that is cut has a code, and may have notes
+pub not-quiet : {d : Delimiters} {table : Set → Option Table} {body : Bytes} {at : ℕ} {place : SetAt} {r : SeenSet}
+    → r ≡ record { place = place; quiet = false; clean = false } → false ≡ accepted (reportAt d table body at []) → SeenIs d table body at r
+not-quiet e f = rw e (record { clean = f; untold = λ h. absurd (false≢true h) })
 
 -- 3. The set at a place.
 -- its ST01, by the header
@@ -138,14 +144,17 @@ module _ {d : Delimiters} {body : Bytes} {valid : List Bool} {rows : Guide} {sco
           ∙ ap null (events-are parts ids limits)
           ∙ null-flat (notesIn d (some table) here)
 
-      -- a quiet set: its trailer decides
-      pub sees-quiet : {p : SetAt} → Quiet p ≡ looked valid d (rowsAt rows from end) body at → (p ≡ place) × (closedWell d body p control ≡ report ids)
+      -- a quiet set: its trailer decides, and nothing is told of it
+      pub sees-quiet : {p : SetAt} → Quiet p ≡ looked valid d (rowsAt rows from end) body at
+          → (p ≡ place) × ((closedWell d body p control ≡ report ids) × (reportAt d (tableBy ids rows scope) body at [] .notes ≡ []))
+      unfolding setReport
       sees-quiet {p} q =
           let says = quiet-says (place .closed && quiet) (q ∙ looks) in
           let c = and-left (place .closed) quiet (says .0) in
           let n = sym (quiet-is c) ∙ and-right (place .closed) quiet (says .0) in
           let codes = by-table ∙ closed-accepts table (notesIn d (some table) here) here (trailer-is true c) in
-          (says .1, rw (says .1) (sym (codes ∙ rw (n, ← s .is .counted, s .is .control, ← s .numbered) (and-true (closedWell d body place control)))))
+          let untold : notesIn d (tableBy ids rows scope here) here ≡ [] = rw (← kind, e) (no-list _ n) in
+          (says .1, (rw (says .1) (sym (codes ∙ rw (n, ← s .is .counted, s .is .control, ← s .numbered) (and-true (closedWell d body place control)))), untold))
 
       -- any other has a code
       pub sees-odd : Odd ≡ looked valid d (rowsAt rows from end) body at → false ≡ report ids
@@ -163,29 +172,27 @@ module _ {d : Delimiters} {body : Bytes} {valid : List Bool} {rows : Guide} {sco
   pub measure-ready : {p : SetAt} → p ≡ place → (p ≡ setAt d body (p .start)) × ((SetIs d body (p .start) p) × Scoped rows scope)
   measure-ready q = rw q (ap (setAt d body) (sym (s .is .starts)), (at-start (s .is), s .tables))
 
-  module _ (ids : List (List ℕ)) (repeated : Bool) {clean : Bool} {mark : ℕ} {p : SetAt}
-      (c : clean ≡ report ids) (m : mark ≡ markBy repeated clean) (q : p ≡ place) where
-    marked : mark ≡ markOf repeated (reportAt d (tableBy ids rows scope) body at [])
-    unfolding markOf
-    marked = m ∙ ap (markBy repeated) c
+  module _ (ids : List (List ℕ)) (repeated : Bool) {seen : SeenSet} {mark : ℕ} (c : SeenIs d (tableBy ids rows scope) body at seen)
+      (m : mark ≡ markBy repeated (seen .quiet) (seen .clean)) (q : seen .place ≡ place) where
+    marked : MarkIs repeated (reportAt d (tableBy ids rows scope) body at []) mark
+    marked = record { quiet = seen .quiet; untold = c .untold; marked = m ∙ ap (markBy repeated (seen .quiet)) (c .clean) }
 
     -- one that is accepted
     pub surveyed-accepted : {told : Told} → mark ≡ 0 → told ≡ record { length = sat (15 + length control); segments = 2 }
-        → SurveyedIs d (tableBy ids rows scope) body at repeated (record { mark = mark; block = told; end = p .end })
+        → SurveyedIs d (tableBy ids rows scope) body at repeated (record { mark = mark; block = told; end = seen .place .end })
     surveyed-accepted z w =
         let three : length (field (here .header) 1) ≡ 3 = ap length (sym (kind-here (s .headed))) ∙ header-three (s .headed) in
         record {
           marked = marked;
-          measured = λ earlier k.
-              rw (w, mark-block d (tableBy ids rows scope here) here earlier (marked ∙ ap (λ (b : Bool). markOf b (reportAt d (tableBy ids rows scope) body at [])) k) z)
-              (acceptance-measured here three (s .numbered ∙ sym (s .is .control)));
+          measured = λ earlier k. rw (w, mark-block d (tableBy ids rows scope here) here earlier (rw k at marked) z) (acceptance-measured here three (s .numbered ∙ sym (s .is .control)));
           ends = ap (λ (r : SetAt). r .end) q;
         }
 
     -- any other
-    pub surveyed-rejected : {told : Told} → ((earlier : List Bytes) → repeated ≡ member (controlOf (setHere d body (p .start))) earlier
-        → Measures d (block (reportAt d (tableBy ids rows scope) body (p .start) earlier)) told)
-        → SurveyedIs d (tableBy ids rows scope) body at repeated (record { mark = mark; block = told; end = p .end })
+    pub surveyed-rejected : {told : Told} → ((earlier : List Bytes) → repeated ≡ member (controlOf (setHere d body (seen .place .start))) earlier
+        → (seen .quiet ≡ true → reportAt d (tableBy ids rows scope) body (seen .place .start) [] .notes ≡ [])
+        → Measures d (block (reportAt d (tableBy ids rows scope) body (seen .place .start) earlier)) told)
+        → SurveyedIs d (tableBy ids rows scope) body at repeated (record { mark = mark; block = told; end = seen .place .end })
     surveyed-rejected w =
-        let start : p .start ≡ at = ap (λ (r : SetAt). r .start) q ∙ s .is .starts in
-        record { marked = marked; measured = rw start at w; ends = ap (λ (r : SetAt). r .end) q }
+        let start : seen .place .start ≡ at = ap (λ (r : SetAt). r .start) q ∙ s .is .starts in
+        record { marked = marked; measured = λ earlier k. (rw start at w) earlier k (c .untold); ends = ap (λ (r : SetAt). r .end) q }

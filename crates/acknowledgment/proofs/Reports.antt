@@ -19,7 +19,7 @@ use Rattle.rules.proofs.Logic.{Silent}
 use Rattle.segments.proofs.Pieces.{segments-none}
 use Rattle.sets.specs.Places.{setAt, controlAt, controlsAt}
 use Rattle.sets.proofs.Sets.{SetIs}
-use Rattle.acknowledgment.specs.Surveys.{reportAt, reports, remaining, markOf, acceptance}
+use Rattle.acknowledgment.specs.Surveys.{reportAt, reports, remaining, markBy, isRepeated, isQuiet, MarkIs, acceptance}
 
 -- 1. A report asks of the ST02s before it only which they are: their order makes no difference.
 report-same : (d : Delimiters) (t : Option Table) (es fs : List Bytes) (s : Set) → member (controlOf s) es ≡ member (controlOf s) fs
@@ -87,7 +87,7 @@ quiet [] e = tt
 quiet ((true ⇒ n) ∷ rs) e = absurd (false≢true e)
 quiet ((false ⇒ n) ∷ rs) e = (refl, quiet rs e)
 
-no-list : {A : Type 0} (xs : List A) → null xs ≡ true → xs ≡ []
+pub no-list : {A : Type 0} (xs : List A) → null xs ≡ true → xs ≡ []
 no-list [] e = refl
 no-list (x ∷ xs) e = absurd (false≢true e)
 
@@ -112,36 +112,48 @@ module _ (d : Delimiters) (t : Option Table) (earlier : List Bytes) (s : Set) (c
   clean-block = short-block (setReport d t earlier s) clean-notes (no-list _ clean)
 
 -- 4. Marks.
-abbrev byCodes : Bool → ℕ
-byCodes b = if b then 0 else 1
-
-pub mark-repeats : (repeated : Bool) (r : SetReport) {mark : ℕ} → mark ≡ markOf repeated r → eqb mark 2 ≡ repeated
-unfolding markOf
-mark-repeats repeated r m = rw m (go repeated (accepted r))
+pub mark-repeats : {repeated : Bool} {r : SetReport} {mark : ℕ} → MarkIs repeated r mark → isRepeated mark ≡ repeated
+mark-repeats {repeated} {r} m = rw (m .marked) (go repeated (m .quiet) (accepted r))
   where
-    go : (b c : Bool) → eqb (if b then 2 else byCodes c) 2 ≡ b
-    go true c = refl
-    go false true = refl
-    go false false = refl
+    go : (b q c : Bool) → isRepeated (markBy b q c) ≡ b
+    go true true c = refl
+    go true false c = refl
+    go false q true = refl
+    go false true false = refl
+    go false false false = refl
+
+pub mark-untold : {repeated : Bool} {r : SetReport} {mark : ℕ} → MarkIs repeated r mark → isQuiet mark ≡ true → r .notes ≡ []
+mark-untold {repeated} {r} m e = m .untold (go repeated (m .quiet) (accepted r) (rw (m .marked) at e))
+  where
+    go : (b q c : Bool) → isQuiet (markBy b q c) ≡ true → q ≡ true
+    go b true c e = refl
+    go true false c e = e
+    go false false true e = e
+    go false false false e = e
 
 module _ (d : Delimiters) (t : Option Table) (s : Set) (earlier : List Bytes) {mark : ℕ}
-    (m : mark ≡ markOf (member (controlOf s) earlier) (setReport d t [] s)) where
+    (m : MarkIs (member (controlOf s) earlier) (setReport d t [] s) mark) where
   pub mark-accepts : eqb mark 0 ≡ accepted (setReport d t earlier s)
-  unfolding markOf any
-  mark-accepts = rw m (go (member (controlOf s) earlier) refl)
+  unfolding any
+  mark-accepts = rw (m .marked) (go (member (controlOf s) earlier) refl)
     where
-      by-codes : (b : Bool) → eqb (byCodes b) 0 ≡ b
-      by-codes true = refl
-      by-codes false = refl
+      by-codes : (q b : Bool) → eqb (markBy false q b) 0 ≡ b
+      by-codes q true = refl
+      by-codes true false = refl
+      by-codes false false = refl
+
+      by-use : (q b : Bool) → eqb (markBy true q b) 0 ≡ false
+      by-use true b = refl
+      by-use false b = refl
 
       used : (b : Bool) → accepted (setReport d t earlier s) ≡ b → member (controlOf s) earlier ≡ true → false ≡ b
       used true e f = sym (clean-new d t earlier s e) ∙ f
       used false e f = refl
 
       go : (b : Bool) → member (controlOf s) earlier ≡ b
-          → eqb (if b then 2 else byCodes (accepted (setReport d t [] s))) 0 ≡ accepted (setReport d t earlier s)
-      go true e = used _ refl e
-      go false e = by-codes _ ∙ ap accepted (report-same d t [] earlier s (sym e))
+          → eqb (markBy b (m .quiet) (accepted (setReport d t [] s))) 0 ≡ accepted (setReport d t earlier s)
+      go true e = by-use (m .quiet) (accepted (setReport d t [] s)) ∙ used (accepted (setReport d t earlier s)) refl e
+      go false e = by-codes (m .quiet) (accepted (setReport d t [] s)) ∙ ap accepted (report-same d t [] earlier s (sym e))
 
   -- the block of a set that is marked as accepted
   pub mark-block : mark ≡ 0 → block (setReport d t earlier s) ≡ acceptance s

@@ -37,7 +37,7 @@ use Rattle.register.proofs.Entered.{Entered, entered-none, entered-finds, enter
 use Rattle.writing.specs.Over.{sat}
 use Rattle.notes.specs.declared.Told.{Told}
 use Rattle.acknowledgment.specs.Writers.{Measures}
-use Rattle.acknowledgment.specs.Surveys.{Room, EnteredNext, setHere, reportAt, reports, remaining, markOf, Marked, Headed, Seen, Surveyed, Open, Cleared}
+use Rattle.acknowledgment.specs.Surveys.{Room, EnteredNext, setHere, reportAt, reports, remaining, MarkIs, Marked, Headed, Seen, Surveyed, Open, Cleared}
 use Rattle.acknowledgment.proofs.Reports.{remaining-all, remaining-none, remaining-next, drop-next, mark-accepts}
 use Rattle.acknowledgment.proofs.Turns.{Sofar, sofar-end, sofar-measured, seen-next}
 
@@ -173,7 +173,7 @@ module _ {d : Delimiters} {table : Set → Option Table} {body : Bytes} {starts 
 
   -- its mark is right after those before it
   pub seeing-marked : {starts′ links′ : List ℕ} {repeated : Bool} {m : ℕ} → at < length body
-      → EnteredNext d body starts k at repeated starts′ links′ → m ≡ markOf repeated (reportAt d table body at [])
+      → EnteredNext d body starts k at repeated starts′ links′ → MarkIs repeated (reportAt d table body at []) m
       → Marked d table body at (controlsAt d body (take k starts)) m
   seeing-marked h e f = rw (seeing-set h refl .control, ← e .repeated) f
 
@@ -192,7 +192,7 @@ module _ {d : Delimiters} {table : Set → Option Table} {body : Bytes} {starts 
       sofar-measured sofar (seen-next here) w nn ll
 
   pub seeing-turn : {starts′ links′ : List ℕ} {repeated : Bool} {m a′ : ℕ} → at < length body
-      → EnteredNext d body starts k at repeated starts′ links′ → m ≡ markOf repeated (reportAt d table body at [])
+      → EnteredNext d body starts k at repeated starts′ links′ → MarkIs repeated (reportAt d table body at []) m
       → a′ ≡ (if eqb m 0 then a + 1 else a) → length links′ ≡ length links
       → Seeing d table body starts′ (set marks k m) links′ (k + 1) a′ (setAt d body at .end)
   seeing-turn {starts′} {links′} {repeated} {m} {a′} h e f g p =

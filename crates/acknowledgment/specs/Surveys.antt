@@ -1,7 +1,7 @@
 -- What one look at the sets of a group tells: where each starts, and by its mark whether it is accepted and whether its control number was used before.
 use Prim.Native.Nat.{ℕ, _+_, _-_, _<_, _≤_}
 use mathlib.Core.Path.{_≡_}
-use mathlib.Core.Bool.{Bool, true, false, _&&_}
+use mathlib.Core.Bool.{Bool, true, false, _&&_, _||_}
 use mathlib.Core.List.{List, [], _∷_}
 use mathlib.Core.Option.{Option}
 use lib.Dec.{eqb}
@@ -25,6 +25,7 @@ use Rattle.sets.proofs.Sets.{SetIs, setIn}
 use Rattle.sets.proofs.Refused.{Passed}
 use Rattle.register.specs.Trees.{slotOf}
 use Rattle.register.proofs.Entered.{Entered}
+use Rattle.acknowledgment.specs.declared.set_block.SeenSet.{SeenSet}
 use Rattle.acknowledgment.specs.declared.survey.Survey.{Survey}
 use Rattle.acknowledgment.specs.declared.survey.SurveyedSet.{SurveyedSet}
 use Rattle.acknowledgment.specs.Writers.{Measures}
@@ -88,17 +89,31 @@ pub record Sighted (d : Delimiters) (body : Bytes) (valid : List Bool) (rows : G
   pub ids : List (List ℕ)
   pub ordered : Ordered ids rows scope
 
--- 4. Marks.
--- by whether a set's number was used before, and whether it has no code else
-abbrev pub markBy : Bool → Bool → ℕ
-markBy repeated clean = if repeated then 2 else (if clean then 0 else 1)
+-- What a look told of the set at a place: whether it has no code where its number was not used before, and maybe that nothing is told of it.
+pub record SeenIs (d : Delimiters) (table : Set → Option Table) (body : Bytes) (at : ℕ) (r : SeenSet) : Type 0 where
+  pub clean : r .clean ≡ accepted (reportAt d table body at [])
+  pub untold : r .quiet ≡ true → reportAt d table body at [] .notes ≡ []
 
--- by whether a set's number was used before, and its report where it was not
-unfoldable pub markOf : Bool → SetReport → ℕ
-markOf repeated r = markBy repeated (accepted r)
+-- 4. Marks.
+-- by whether a set's number was used before, whether it is known that nothing is told of it, and whether it has no code else
+abbrev pub markBy : Bool → Bool → Bool → ℕ
+markBy repeated quiet clean = if repeated then (if quiet then 4 else 2) else (if clean then 0 else (if quiet then 3 else 1))
+
+-- what a mark says
+abbrev pub isRepeated : ℕ → Bool
+isRepeated mark = eqb mark 2 || eqb mark 4
+
+abbrev pub isQuiet : ℕ → Bool
+isQuiet mark = eqb mark 3 || eqb mark 4
+
+-- A mark is right by whether a set's number was used before, and its report where it was not.
+pub record MarkIs (repeated : Bool) (r : SetReport) (mark : ℕ) : Type 0 where
+  pub quiet : Bool
+  pub untold : quiet ≡ true → r .notes ≡ []
+  pub marked : mark ≡ markBy repeated quiet (accepted r)
 
 abbrev pub Marked : Delimiters → (Set → Option Table) → Bytes → ℕ → List Bytes → ℕ → Type 0
-Marked d table body at earlier mark = mark ≡ markOf (member (controlOf (setHere d body at)) earlier) (reportAt d table body at [])
+Marked d table body at earlier mark = MarkIs (member (controlOf (setHere d body at)) earlier) (reportAt d table body at []) mark
 
 -- the block of a set that is accepted
 unfoldable pub acceptance : Set → List Segment
@@ -106,7 +121,7 @@ acceptance s = (ascii "AK2" ∷ field (s .header) 1 ∷ controlOf s ∷ []) ∷ 
 
 -- The set at a place was looked at: its mark, what its block comes to, and where it ends.
 pub record SurveyedIs (d : Delimiters) (table : Set → Option Table) (body : Bytes) (at : ℕ) (repeated : Bool) (r : SurveyedSet) : Type 0 where
-  pub marked : r .mark ≡ markOf repeated (reportAt d table body at [])
+  pub marked : MarkIs repeated (reportAt d table body at []) (r .mark)
   pub measured : (earlier : List Bytes) → repeated ≡ member (controlOf (setHere d body at)) earlier
       → Measures d (block (reportAt d table body at earlier)) (r .block)
   pub ends : r .end ≡ setAt d body at .end

@@ -1,6 +1,6 @@
 // One set of a group: whether it has a code, and its block in the response: AK2, its notes, AK5.
 ghost use mathlib.Core.Path.{_≡_};
-ghost use mathlib.Core.Bool.{false, not};
+ghost use mathlib.Core.Bool.{true, false, not};
 ghost use mathlib.Core.List.{List, [], _∷_};
 ghost use mathlib.Core.Option.{Option};
 ghost use Prim.Native.Nat.{ℕ, _+_, _<_, _≤_};
@@ -9,7 +9,7 @@ ghost use Rattle.rules.specs.Base.{Bytes, null, isNone, member};
 ghost use Rattle.rules.specs.Cutting.{field};
 ghost use Rattle.rules.specs.Tables.{Table};
 ghost use Rattle.rules.specs.Segments.{Note};
-ghost use Rattle.rules.specs.Sets.{controlOf, notesIn, setCodes, accepted};
+ghost use Rattle.rules.specs.Sets.{controlOf, notesIn, setCodes};
 ghost use Rattle.rules.specs.Response as law;
 ghost use Rattle.guides.specs.Choice.{isThere, tableAt};
 ghost use Rattle.text.specs.Text.{part};
@@ -19,8 +19,8 @@ ghost use Rattle.verdicts.specs.Collecting.{codesOf};
 ghost use Rattle.writing.specs.Over.{sat};
 ghost use Rattle.notes.specs.Saying.{Tells};
 ghost use Rattle.acknowledgment.specs.Writers.{TellsFrom, Measures};
-ghost use Rattle.acknowledgment.specs.Received.{Scoped, Ordered, receivedAt, setOf, ReceivedIs, reportOf, tableBy};
-ghost use Rattle.acknowledgment.specs.Surveys.{setHere, reportAt, headerAt, Marked, acceptance, Headed, closedWell, Sighted};
+ghost use Rattle.acknowledgment.specs.Received.{Scoped, Ordered, receivedAt, setOf, ReceivedIs, reportOf, Untold, tableBy};
+ghost use Rattle.acknowledgment.specs.Surveys.{setHere, reportAt, headerAt, isRepeated, isQuiet, Marked, acceptance, Headed, closedWell, Sighted, SeenIs};
 use guides::Scope;
 use guides::TableAt;
 use look::Look;
@@ -37,6 +37,11 @@ pub const REJECTED: u8 = 1;
 
 pub const REPEATED: u8 = 2;
 
+// The last two, of a set of which a look showed that nothing is told.
+pub const QUIET_REJECTED: u8 = 3;
+
+pub const QUIET_REPEATED: u8 = 4;
+
 // The bytes of AK2 and AK5 of an accepted set beside its ST02: ST01 has three.
 const ACCEPTANCE: usize = 15;
 
@@ -46,17 +51,21 @@ pub struct Reading {
     pub scope: Scope,
 }
 
-// A set that was looked at: its place, and whether it has no code where its control number was not used before.
+// A set that was looked at: its place, whether it showed that nothing is told of the set, and whether the set has no code where its control number
+// was not used before.
 pub struct SeenSet {
     pub place: SetAt,
+    pub quiet: bool,
     pub clean: bool,
 }
 
-// A set as received: where it stands, where its table stands, and whether an earlier set has its control number.
+// A set as received: where it stands, where its table stands, whether an earlier set has its control number, and whether it is known that nothing
+// is told of it.
 pub struct ReceivedSet {
     pub place: SetAt,
     pub table: TableAt,
     pub repeated: bool,
+    pub quiet: bool,
 }
 
 // A set that was looked at: where it starts, and its mark.
@@ -66,8 +75,8 @@ pub struct MarkedSet {
 }
 
 // The set at a place, with the table that its ST01 gives it.
-pub(crate) fn receive(body: &[u8], reading: Reading, place: SetAt, repeated: bool) -> ReceivedSet
-    ensures { λ r. ⌜ r ≡ receivedAt (reading .delimiters) (reading .scope) (now (body .entry)) place repeated ⌝ }
+fn receive(body: &[u8], reading: Reading, place: SetAt, repeated: bool, quiet: bool) -> ReceivedSet
+    ensures { λ r. ⌜ r ≡ receivedAt (reading .delimiters) (reading .scope) (now (body .entry)) place repeated quiet ⌝ }
 {
     let d = reading.delimiters;
     let header = text::part(body, place.start, place.header);
@@ -77,6 +86,7 @@ pub(crate) fn receive(body: &[u8], reading: Reading, place: SetAt, repeated: boo
         place,
         table,
         repeated,
+        quiet,
     }
 }
 
@@ -138,10 +148,11 @@ fn is_closed_well(body: &[u8], d: Delimiters, place: SetAt, control: &[u8]) -> b
 
 // The set that starts at `at`, which has a code whatever its control number is: it is cut.
 fn odd_set(body: &[u8], d: Delimiters, at: usize) -> SeenSet
-    ensures { λ r. ⌜ r ≡ record { place = setAt d (now (body .entry)) at; clean = false } ⌝ }
+    ensures { λ r. ⌜ r ≡ record { place = setAt d (now (body .entry)) at; quiet = false; clean = false } ⌝ }
 {
     SeenSet {
         place: sets::next_set(body, d, at),
+        quiet: false,
         clean: false,
     }
 }
@@ -156,7 +167,7 @@ pub(crate) fn see(
     control: &[u8],
 ) -> SeenSet
     requires { ⌜ Sighted (reading .delimiters) (now body) (now valid) (now rows) (reading .scope) at (now control) ⌝ }
-    ensures { λ r. ⌜ (r .place ≡ setAt (reading .delimiters) (now (body .entry)) at) × ((ids : List (List ℕ)) → Ordered ids (now (rows .entry)) (reading .scope) → r .clean ≡ accepted (reportAt (reading .delimiters) (tableBy ids (now (rows .entry)) (reading .scope)) (now (body .entry)) at [])) ⌝ }
+    ensures { λ r. ⌜ (r .place ≡ setAt (reading .delimiters) (now (body .entry)) at) × ((ids : List (List ℕ)) → Ordered ids (now (rows .entry)) (reading .scope) → SeenIs (reading .delimiters) (tableBy ids (now (rows .entry)) (reading .scope)) (now (body .entry)) at r) ⌝ }
 {
     let d = reading.delimiters;
     let scope = reading.scope;
@@ -167,6 +178,7 @@ pub(crate) fn see(
                 Look::Odd => odd_set(body, d, at),
                 Look::Quiet(place) => SeenSet {
                     place,
+                    quiet: true,
                     clean: is_closed_well(body, d, place, control),
                 },
             }
@@ -174,7 +186,7 @@ pub(crate) fn see(
     }
 }
 
-// The notes of a set after n bytes; a set without a table has none.
+// The notes of a set after n bytes; a quiet set and one without a table have none.
 fn add_notes(
     out: &mut [u8],
     n: usize,
@@ -185,8 +197,14 @@ fn add_notes(
     rows: &[[u16; 6]],
 ) -> Told
     requires { ⌜ ReceivedIs d (now body) (now rows) set ⌝ }
-    ensures { λ r. ⌜ TellsFrom n d (law.ak3s (notesIn d (tableAt (now (directory .entry)) (now (rows .entry)) (set .table)) (setOf d (now (body .entry)) set))) r (now (out .entry)) (now (out .exit)) ⌝ }
+    ensures { λ r. ⌜ (Untold d (now (directory .entry)) (now (rows .entry)) (now (body .entry)) set → TellsFrom n d (law.ak3s (notesIn d (tableAt (now (directory .entry)) (now (rows .entry)) (set .table)) (setOf d (now (body .entry)) set))) r (now (out .entry)) (now (out .exit))) ⌝ }
 {
+    if set.quiet {
+        return Told {
+            length: n,
+            segments: 0,
+        };
+    }
     let table = set.table;
     match table {
         TableAt::Nowhere => Told {
@@ -234,7 +252,7 @@ fn put_rejected(
     rows: &[[u16; 6]],
 ) -> Told
     requires { ⌜ ReceivedIs d (now body) (now rows) set ⌝ }
-    ensures { λ r. ⌜ ((earlier : List Bytes) → set .repeated ≡ member (controlOf (setOf d (now (body .entry)) set)) earlier → Tells d (law.block (reportOf d (now (directory .entry)) (now (rows .entry)) (now (body .entry)) set earlier)) r (now (out .entry)) (now (out .exit))) ⌝ }
+    ensures { λ r. ⌜ ((earlier : List Bytes) → set .repeated ≡ member (controlOf (setOf d (now (body .entry)) set)) earlier → Untold d (now (directory .entry)) (now (rows .entry)) (now (body .entry)) set → Tells d (law.block (reportOf d (now (directory .entry)) (now (rows .entry)) (now (body .entry)) set earlier)) r (now (out .entry)) (now (out .exit))) ⌝ }
 {
     let place = set.place;
     let header = text::part(body, place.start, place.header);
@@ -245,6 +263,20 @@ fn put_rejected(
         length: blocks::add_ak5(out, told.length, d, codes),
         segments: writing::joined(told.segments, 2),
     }
+}
+
+// A set with this mark has a control number that was used before.
+fn is_repeated(mark: u8) -> bool
+    ensures { λ r. ⌜ r ≡ isRepeated mark ⌝ }
+{
+    (mark == REPEATED) | (mark == QUIET_REPEATED)
+}
+
+// Nothing is told of a set with this mark.
+fn is_quiet(mark: u8) -> bool
+    ensures { λ r. ⌜ r ≡ isQuiet mark ⌝ }
+{
+    (mark == QUIET_REJECTED) | (mark == QUIET_REPEATED)
 }
 
 // The block of a set that was looked at.
@@ -264,7 +296,8 @@ pub(crate) fn put_block(
         return put_accepted(out, body, d, set.start);
     }
     let place = sets::next_set(body, d, set.start);
-    let received = receive(body, reading, place, set.mark == REPEATED);
+    let mark = set.mark;
+    let received = receive(body, reading, place, is_repeated(mark), is_quiet(mark));
     put_rejected(out, body, d, received, directory, rows)
 }
 
@@ -282,16 +315,17 @@ pub(crate) fn measure_accepted(control: &[u8]) -> Told
 pub(crate) fn measure_rejected(
     body: &[u8],
     reading: Reading,
-    place: SetAt,
+    set: SeenSet,
     repeated: bool,
     directory: &[[u8; 3]],
     rows: &[[u16; 6]],
 ) -> Told
-    requires { ⌜ (place ≡ setAt (reading .delimiters) (now body) (place .start)) × ((SetIs (reading .delimiters) (now body) (place .start) place) × Scoped (now rows) (reading .scope)) ⌝ }
-    ensures { λ r. ⌜ ((earlier : List Bytes) → repeated ≡ member (controlOf (setHere (reading .delimiters) (now (body .entry)) (place .start))) earlier → Measures (reading .delimiters) (law.block (reportAt (reading .delimiters) (tableBy (now (directory .entry)) (now (rows .entry)) (reading .scope)) (now (body .entry)) (place .start) earlier)) r) ⌝ }
+    requires { ⌜ (set .place ≡ setAt (reading .delimiters) (now body) (set .place .start)) × ((SetIs (reading .delimiters) (now body) (set .place .start) (set .place)) × Scoped (now rows) (reading .scope)) ⌝ }
+    ensures { λ r. ⌜ ((earlier : List Bytes) → repeated ≡ member (controlOf (setHere (reading .delimiters) (now (body .entry)) (set .place .start))) earlier → (set .quiet ≡ true → reportAt (reading .delimiters) (tableBy (now (directory .entry)) (now (rows .entry)) (reading .scope)) (now (body .entry)) (set .place .start) [] .notes ≡ []) → Measures (reading .delimiters) (law.block (reportAt (reading .delimiters) (tableBy (now (directory .entry)) (now (rows .entry)) (reading .scope)) (now (body .entry)) (set .place .start) earlier)) r) ⌝ }
 {
     let d = reading.delimiters;
-    let set = receive(body, reading, place, repeated);
+    let place = set.place;
+    let received = receive(body, reading, place, repeated, set.quiet);
     let mut nothing: [u8; 1] = [0];
-    put_rejected(&mut nothing[0..0], body, d, set, directory, rows)
+    put_rejected(&mut nothing[0..0], body, d, received, directory, rows)
 }

@@ -6,9 +6,12 @@ ghost use Rattle.acknowledgment.specs.Received.{Ordered, tableBy};
 ghost use Rattle.acknowledgment.specs.Surveys.{Room, EnteredNext, markBy, Sighted, SurveyedIs, Surveyed, Open, Cleared};
 use crate::set_block;
 use crate::set_block::ACCEPTED;
+use crate::set_block::QUIET_REJECTED;
+use crate::set_block::QUIET_REPEATED;
 use crate::set_block::REJECTED;
 use crate::set_block::REPEATED;
 use crate::set_block::Reading;
+use crate::set_block::SeenSet;
 use notes::Told;
 use register::Found;
 use rules::Delimiters;
@@ -56,14 +59,17 @@ fn enter(
     }
 }
 
-// The mark of a set.
-fn mark_of(repeated: bool, clean: bool) -> u8
-    ensures { λ r. ⌜ r ≡ markBy repeated clean ⌝ }
+// The mark of a set that was looked at, by whether its control number was used before.
+fn mark_of(repeated: bool, set: SeenSet) -> u8
+    ensures { λ r. ⌜ r ≡ markBy repeated (set .quiet) (set .clean) ⌝ }
 {
     if repeated {
-        return REPEATED;
+        return if set.quiet { QUIET_REPEATED } else { REPEATED };
     }
-    if clean { ACCEPTED } else { REJECTED }
+    if set.clean {
+        return ACCEPTED;
+    }
+    if set.quiet { QUIET_REJECTED } else { REJECTED }
 }
 
 // A set as surveyed: its mark, what its block comes to, and where it ends.
@@ -88,7 +94,7 @@ fn survey_set(
     ensures { λ r. ⌜ SurveyedIs (reading .delimiters) (tableBy (now (directory .entry)) (now (rows .entry)) (reading .scope)) (now (body .entry)) at repeated r ⌝ }
 {
     let seen = set_block::see(body, reading, valid, rows, at, control);
-    let mark = mark_of(repeated, seen.clean);
+    let mark = mark_of(repeated, seen);
     let place = seen.place;
     let end = place.end;
     if mark == ACCEPTED {
@@ -100,7 +106,7 @@ fn survey_set(
     }
     SurveyedSet {
         mark,
-        block: set_block::measure_rejected(body, reading, place, repeated, directory, rows),
+        block: set_block::measure_rejected(body, reading, seen, repeated, directory, rows),
         end,
     }
 }

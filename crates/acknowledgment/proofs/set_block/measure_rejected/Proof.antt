@@ -7,15 +7,15 @@ use Rattle.acknowledgment.proofs.set_block.measure_rejected.Tie as tie
 
 put-rejected-requires : tie.Need-put-rejected-requires
 put-rejected-requires c κs =
-    let entry = c .before .before .before .before in
-    received-is (entry .pre .0) (entry .pre .1 .0) _ _ (c .before .receive .ensures) (entry .pre .1 .1)
+    let entry = c .before .before .before .before .before in
+    received-is (entry .pre .0) (entry .pre .1 .0) _ _ _ (c .before .receive .ensures) (entry .pre .1 .1)
 
 returns : tie.Need-returns
 returns c =
     let set = c .before .before .before in
-    let entry = set .before .before .before in
-    λ earlier k.
-    measures (block-received (entry .pre .0) (entry .pre .1 .0) _ _ _ _ (set .receive .ensures) earlier (c .before .put-rejected .ensures earlier) k)
+    let entry = set .before .before .before .before in
+    λ earlier k u.
+    measures (block-received (entry .pre .0) (entry .pre .1 .0) _ _ _ _ _ (set .receive .ensures) earlier (c .before .put-rejected .ensures earlier) k u)
 
 pub measure-rejected-spec : {M : Type 1} → statement M
 measure-rejected-spec =

@@ -1,8 +1,9 @@
 -- `acknowledgment::set_block::put_block` meets its contract: the mark of a set decides how its block is written.
+use mathlib.Core.Path.{sym, _∙_}
 use Rattle.acknowledgment.specs.Received.{tableBy}
 use Rattle.acknowledgment.specs.Surveys.{setHere}
 use Rattle.acknowledgment.proofs.Blocks.{received-is, block-received}
-use Rattle.acknowledgment.proofs.Reports.{mark-block, mark-repeats}
+use Rattle.acknowledgment.proofs.Reports.{mark-block, mark-repeats, mark-untold}
 use borrow.Author.Needs.{needs}
 use Rattle.acknowledgment.proofs.set_block.put_block.Statement.{statement}
 use Rattle.acknowledgment.proofs.set_block.put_block.Tie as tie
@@ -21,17 +22,20 @@ put-accepted-requires c κs = let entry = c .before .before .before .before .bef
 
 put-rejected-requires : tie.Need-put-rejected-requires
 put-rejected-requires c κs =
-    let place = c .before .before .before in
+    let place = c .before .before .before .before in
     let entry = place .before .before .before .before .before .before in
-    received-is (place .next-set .ensures) (rw (place .next-set .ensures) (entry .pre .1 .0)) _ _ (c .before .receive .ensures) (entry .pre .1 .1)
+    received-is (place .next-set .ensures) (rw (place .next-set .ensures) (entry .pre .1 .0)) _ _ _ (c .before .receive .ensures) (entry .pre .1 .1)
 
 returns-2 : tie.Need-returns-2
 returns-2 c =
     let set = c .before .before .before .before in
-    let place = set .before .before in
+    let quiet = set .before in
+    let repeated = quiet .before in
+    let place = repeated .before in
     let entry = place .before .before .before .before .before .before in
     λ earlier m.
-    block-received (place .next-set .ensures) (rw (place .next-set .ensures) (entry .pre .1 .0)) _ _ _ _ (set .receive .ensures) earlier (c .before .before .put-rejected .ensures earlier) (mark-repeats _ _ m)
+    block-received (place .next-set .ensures) (rw (place .next-set .ensures) (entry .pre .1 .0)) _ _ _ _ _ (set .receive .ensures) earlier (c .before .before .put-rejected .ensures earlier)
+    (repeated .is-repeated .ensures ∙ mark-repeats m) (λ h. mark-untold m (sym (quiet .is-quiet .ensures) ∙ h))
 
 pub put-block-spec : {M : Type 1} → statement M
 put-block-spec =
@@ -40,6 +44,8 @@ put-block-spec =
     put-accepted-requires
     (λ c. search needs)
     returns
+    (λ c κs. search needs)
+    (λ c κs. search needs)
     (λ c κs. search needs)
     (λ c κs. search needs)
     put-rejected-requires

@@ -19,10 +19,10 @@ returns c =
     let ak2 = notes .before .before .before .before in
     let header = ak2 .before .before in
     let entry = header .before .before .before .before in
-    λ earlier k.
+    λ earlier k u.
     block-of _ _ (tableAt (entry .args .directory .now) (entry .args .rows .now) (entry .args .set .table)) earlier (codes .codes-of .result) (sym (entry .pre .is .header ∙ rw (header .part .ensures)))
     (ak2 .add-ak2 .ensures)
-    (notes .add-notes .ensures)
+    (notes .add-notes .ensures u)
     (λ e. codes .codes-of .ensures _ _ earlier (there-is (entry .args .directory .now) (entry .args .rows .now) (entry .args .set .table)) e k)
     (ak5 .add-ak5 .ensures)
     (c .joined .ensures)

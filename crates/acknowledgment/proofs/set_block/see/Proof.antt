@@ -1,15 +1,12 @@
 -- `acknowledgment::set_block::see` meets its contract: no table is a code; else the look decides, and of a quiet set its trailer.
 use mathlib.Core.Path.{_≡_, sym, ap, _∙_}
-use mathlib.Core.Bool.{Bool}
 use native.Mathlib.Omega.{arith}
 use Rattle.rules.specs.Cutting.{field}
-use Rattle.guides.specs.Choice.{placeOf}
-use Rattle.guides.specs.declared.TableAt.the-variants.{Rows}
 use Rattle.sets.specs.declared.SetAt.{SetAt}
 use Rattle.acknowledgment.specs.declared.set_block.SeenSet.{SeenSet}
 use Rattle.acknowledgment.specs.Surveys.{setHere}
 use Rattle.acknowledgment.proofs.Headers.{header-inside, header-kind}
-use Rattle.acknowledgment.proofs.Looks.{kind-here, sees-nowhere, sees-quiet, sees-odd}
+use Rattle.acknowledgment.proofs.Looks.{kind-here, sees-nowhere, sees-quiet, sees-odd, not-quiet}
 use borrow.Author.Needs.{needs}
 use Rattle.acknowledgment.proofs.set_block.see.Statement.{statement}
 use Rattle.acknowledgment.proofs.set_block.see.Tie as tie
@@ -61,7 +58,8 @@ returns c =
     let table = c .before .before .before in
     let s = table .before .before .before .before .before .before .pre in (
       ap (λ (r : SeenSet). r .place) (c .odd-set .ensures),
-      λ ids o. ap (λ (r : SeenSet). r .clean) (c .odd-set .ensures) ∙ sees-nowhere s (kind (table .before)) (sym (table .table-of .ensures) ∙ c .before .enum-told .given .1) ids,
+      λ ids o.
+          not-quiet (c .odd-set .ensures) (sees-nowhere s (kind (table .before)) (sym (table .table-of .ensures) ∙ c .before .enum-told .given .1) ids),
     )
 
 returns-2 : tie.Need-returns-2
@@ -72,8 +70,8 @@ returns-2 c =
     let s = table .before .before .before .before .before .before .pre in (
       ap (λ (r : SeenSet). r .place) (c .odd-set2 .ensures),
       λ ids o.
-          ap (λ (r : SeenSet). r .clean) (c .odd-set2 .ensures)
-          ∙ sees-odd s (kind (table .before)) (sym (table .table-of .ensures) ∙ told .from .given .1) ids o (sym (c .before .enum-told2 .given .1) ∙ look .look-at .ensures),
+          not-quiet (c .odd-set2 .ensures)
+          (sees-odd s (kind (table .before)) (sym (table .table-of .ensures) ∙ told .from .given .1) ids o (sym (c .before .enum-told2 .given .1) ∙ look .look-at .ensures)),
     )
 
 is-closed-well-requires : tie.Need-is-closed-well-requires
@@ -96,7 +94,9 @@ returns-3 c =
     let e = sym (table .table-of .ensures) ∙ told .from .given .1 in
     let q = sym (place .place .given .1) ∙ look .look-at .ensures in (
       sees-quiet s (kind (table .before)) e (s .ids) (s .ordered) q .0,
-      λ ids o. c .is-closed-well .ensures ∙ sees-quiet s (kind (table .before)) e ids o q .1,
+      λ ids o.
+          let says = sees-quiet s (kind (table .before)) e ids o q .1 in
+          record { clean = c .is-closed-well .ensures ∙ says .0; untold = λ h. says .1 },
     )
 
 pub see-spec : {M : Type 1} → statement M

@@ -3,13 +3,19 @@ use Rattle.acknowledgment.proofs.survey.mark_of.Statement.{statement}
 use Rattle.acknowledgment.proofs.survey.mark_of.Tie as tie
 
 returns : tie.Need-returns
-returns c = rw (c .if1 .taken)
+returns c = rw (c .before .if1 .taken, c .if2 .taken)
 
 returns-2 : tie.Need-returns-2
-returns-2 c = rw (c .before .if1 .left, c .if2 .taken)
+returns-2 c = rw (c .before .if1 .taken, c .if2 .left)
 
 returns-3 : tie.Need-returns-3
-returns-3 c = rw (c .before .if1 .left, c .if2 .left)
+returns-3 c = rw (c .before .if1 .left, c .if3 .taken)
+
+returns-4 : tie.Need-returns-4
+returns-4 c = rw (c .before .before .if1 .left, c .before .if3 .left, c .if4 .taken)
+
+returns-5 : tie.Need-returns-5
+returns-5 c = rw (c .before .before .if1 .left, c .before .if3 .left, c .if4 .left)
 
 pub mark-of-spec : {M : Type 1} → statement M
-mark-of-spec = tie.close (tie.spec returns returns-2 returns-3)
+mark-of-spec = tie.close (tie.spec returns returns-2 returns-3 returns-4 returns-5)
