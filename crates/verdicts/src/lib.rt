@@ -2,13 +2,15 @@
 ghost use mathlib.Core.Path.{_≡_};
 ghost use mathlib.Core.Bool.{_&&_};
 ghost use mathlib.Core.List.{[], _∷_};
-ghost use Prim.Native.Nat.{min};
+ghost use Prim.Native.Nat.{_+_, min};
+ghost use lib.ListN.{drop};
 ghost use Rattle.rules.specs.Base.{ascii, same, null, if_then_else_};
 ghost use Rattle.rules.specs.Cutting as cutting;
 ghost use Rattle.rules.specs.Cutting.{split};
 ghost use Rattle.rules.specs.Numbers.{declares};
 ghost use Rattle.rules.specs.Sets.{declaredIn};
 ghost use Rattle.rules.specs.Groups as groups;
+ghost use Rattle.text.specs.Text.{indexOf, part};
 ghost use Rattle.verdicts.specs.Collecting.{codesOf, noCodes, withCode, collected};
 ghost use Rattle.verdicts.specs.Verdicts.{trailerIf, otherControl, otherCount, setCodeRules, groupCodeRules, summaryOf};
 use guides::Scope;
@@ -91,12 +93,21 @@ fn is_other_count(closed: bool, trailer: &[u8], e: u8, most: usize, n: usize) ->
     closed && !text::declares(field(trailer, e, 1), most, n as u64)
 }
 
+// The field that starts at `at`, the empty part where that is past the end.
+fn field_at(s: &[u8], e: u8, at: usize) -> &[u8]
+    ensures { λ r. ⌜ now r ≡ part (now (s .entry)) at (at + indexOf e (drop at (now (s .entry)))) ⌝ }
+{
+    text::part(s, at, text::find_near(s, at, e))
+}
+
 // A set of n segments with this control number is closed by its trailer as it should be.
 pub fn closes(trailer: &[u8], e: u8, n: usize, control: &[u8]) -> bool
     ensures { λ r. ⌜ r ≡ (declares 10 (cutting.field (split e (now (trailer .entry))) 1) n && same (cutting.field (split e (now (trailer .entry))) 2) (now (control .entry))) ⌝ }
 {
-    text::declares(field(trailer, e, 1), SE01_DIGITS, n as u64)
-        && same_bytes(field(trailer, e, 2), control)
+    let first = text::find_near(trailer, 0, e) + 1;
+    let se01 = field_at(trailer, e, first);
+    text::declares(se01, SE01_DIGITS, n as u64)
+        && same_bytes(field_at(trailer, e, first + se01.len() + 1), control)
 }
 
 // What a set's codes are made from, beside the bytes of its header and trailer.
