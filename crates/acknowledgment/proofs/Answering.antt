@@ -1,7 +1,6 @@
 -- From the writer of the response to the answer: the length and the text, what an interchange without a refusal gives the writer, and the outcome.
 use mathlib.Core.Path.{_≡_, refl, _∙_}
 use Prim.Native.Nat.{ℕ, _≤_, _<_}
-use mathlib.Core.List.{List}
 use native.Mathlib.Omega.{arith}
 use borrow.Author.Tests.{ne-eqb, le-leb, lt-leb, not-true, not-false, leb-true}
 use lib.Dec.{eqb, leb}
@@ -17,7 +16,6 @@ use Rattle.rules.specs.declared.Answer.{Answer}
 use Rattle.rules.specs.declared.Answer.the-variants.{Written, Refused, TooLong}
 use Rattle.rules.specs.declared.Delimiters.{Delimiters}
 use Rattle.rules.proofs.Logic.{and-left, and-right, or-left, or-right, silent}
-use Rattle.tables.specs.Reading.{Guide}
 use Rattle.guides.specs.Encoded.{directoryRows}
 use Rattle.guides.specs.Choice.{scopeIn}
 use Rattle.guides.specs.declared.Scope.{Scope}

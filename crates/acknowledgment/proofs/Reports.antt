@@ -8,7 +8,7 @@ use native.Mathlib.Numerals.{add-one}
 use borrow.Author.Tests.{not-false}
 use lib.Dec.{eqb}
 use lib.ListN.{length, drop}
-use Rattle.rules.specs.Base.{Bytes, ascii, Rule, _⇒_, every, null, any, same, member, if_then_else_}
+use Rattle.rules.specs.Base.{Bytes, ascii, Rule, _⇒_, every, null, any, same, member}
 use Rattle.rules.specs.Cutting.{segments}
 use Rattle.rules.specs.Tables.{Table}
 use Rattle.rules.specs.Sets.{Set, SetReport, setsOf, controlOf, setCodes, setReport, accepted}

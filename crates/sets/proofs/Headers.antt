@@ -28,7 +28,7 @@ module _ {e : ℕ} {s : Bytes} {n start : ℕ} (f : FieldAt e s n start) where
       omega (arith, ap length (field-at f refl), length-take (end - start) (drop start s), length-drop start s)
 
   -- a field that is not empty starts within the segment
-  pub field-within : 0 < length (field (split e s) n) → start ≤ length s
+  field-within : 0 < length (field (split e s) n) → start ≤ length s
   field-within k = go (ltb (length s) start) refl
     where
       go : (b : Bool) → ltb (length s) start ≡ b → start ≤ length s
@@ -53,7 +53,7 @@ module _ (d : Delimiters) (s : Bytes) (named : isST (split (d .element) s) ≡ t
     unfolding goodST
     kind-length = let l = digits-length 3 3 (field (split e s) 1) (and-left (digits 3 3 (field (split e s) 1)) _ good) in omega arith
 
-    pub number-length : 4 ≤ length (field (split e s) 2)
+    number-length : 4 ≤ length (field (split e s) 2)
     unfolding goodST text
     number-length =
         let sized = and-right (digits 3 3 (field (split e s) 1)) (between 4 9 (length (field (split e s) 2)) && all (valid d) (field (split e s) 2)) good in

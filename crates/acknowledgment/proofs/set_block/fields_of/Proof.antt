@@ -1,9 +1,8 @@
 -- `acknowledgment::set_block::fields_of` meets its contract: what follows the id, up to the end of ST02.
-use mathlib.Core.Path.{_≡_, _∙_}
+use mathlib.Core.Path.{_∙_}
 use Prim.Native.Nat.{_+_}
 use native.Mathlib.Omega.{arith}
-use lib.ListN.{length, drop, length-drop}
-use Rattle.sets.specs.Places.{controlAt}
+use lib.ListN.{drop, length-drop}
 use Rattle.acknowledgment.proofs.Headers.{field-short, header-inside, header-control, header-fields}
 use borrow.Author.Needs.{needs}
 use Rattle.acknowledgment.proofs.set_block.fields_of.Statement.{statement}
