@@ -6,10 +6,10 @@ use borrow.Author.Needs.{needs}
 use lib.ListN.{length, drop, length-drop}
 use lib.Seq.{length-take-le}
 use Rattle.rules.specs.Base.{Bytes}
-use Rattle.rules.specs.Cutting.{split, field}
+use Rattle.rules.specs.Cutting.{field}
 use Rattle.text.specs.Text.{indexOf, part}
 use Rattle.text.proofs.Search.{find-le}
-use Rattle.segments.proofs.Fields.{FieldAt, field-first, field-at, field-next}
+use Rattle.segments.proofs.Fields.{field-first, field-at, field-next}
 use Rattle.verdicts.proofs.closes.Statement.{statement}
 use Rattle.verdicts.proofs.closes.Tie as tie
 
