@@ -1,16 +1,18 @@
 -- Digits and the number that they stand for.
-use Prim.Native.Nat.{ℕ, suc, _+_, _-_, _*_, _^_, _<_, _≤_}
-use mathlib.Core.Path.{_≡_}
-use mathlib.Core.Bool.{Bool, true}
+use Prim.Native.Nat.{ℕ, suc, _+_, _-_, _*_, _^_, _<_, _≤_, min}
+use mathlib.Core.Path.{_≡_, refl}
+use mathlib.Core.Bool.{Bool, true, false, _&&_}
 use mathlib.Core.List.{[], _∷_}
+use mathlib.Core.Option.{none, some}
 use native.Mathlib.Nat.{add-zero, pow-suc, pow-le-pow-right, lt-of-lt-of-le}
 use native.Mathlib.Numerals.{add-one}
 use native.Mathlib.Omega.{arith}
-use borrow.Author.Tests.{leb-true, le-leb, lt-leb}
+use borrow.Author.Tests.{leb-true, le-leb}
 use lib.Dec.{leb, lit<}
 use lib.ListN.{length, getD, drop, drop-of-length-le}
 use Rattle.rules.specs.Base.{Bytes, between, isDigit, all, if_then_else_}
-use Rattle.rules.specs.Numbers.{digits, valueFrom, value}
+use Rattle.rules.specs.Numbers.{digits, valueFrom, value, countIn}
+use Rattle.rules.specs.Groups.{or-else}
 use Rattle.rules.proofs.Logic.{and-left, and-right, all-head, all-tail}
 use Rattle.text.specs.Text.{upToTen}
 use Rattle.text.proofs.Loops.{left-cons}
@@ -70,11 +72,31 @@ value-below lo hi s e =
     (below-from 0 0 s (lit< tt) (digits-all lo hi s e))
     (pow-le-pow-right {n = 10} (lit< tt) {i = 0 + length s} {j = hi} (omega arith))
 
--- what `value` answers, by the two tests of it
-pub value-long : (s : Bytes) → 10 < length s → upToTen s ≡ 0
-unfolding upToTen digits
-value-long s h = rw (le-leb 0 (length s) (omega arith), lt-leb (length s) 10 h)
+-- the count that is told, by the two tests of it
+pub count-few : (hi most : ℕ) (s : Bytes) → between 1 hi (length s) ≡ true → hi ≡ min most 10 → length s ≤ 10
+count-few hi most s e h = let b = between-true 1 hi (length s) e in omega arith
 
+pub count-long : (hi : ℕ) (s : Bytes) → between 1 hi (length s) ≡ false → countIn hi s ≡ none
+unfolding countIn digits
+count-long hi s h = rw h
+
+pub count-by : (hi : ℕ) (s : Bytes) (q : Bool) → between 1 hi (length s) ≡ true → all isDigit s ≡ q → countIn hi s ≡ if q then some (value s) else none
+unfolding countIn digits
+count-by hi s q h e = rw (h, e)
+
+-- the number is that count, and 0 where there is none: no digits stand for 0, too
+pub value-counted : (s : Bytes) → upToTen s ≡ or-else (countIn 10 s) 0
+unfolding upToTen countIn digits value valueFrom all
+value-counted [] = refl
+value-counted (b ∷ bs) =
+    rw (le-leb 0 (suc (length bs)) (omega arith), le-leb 1 (suc (length bs)) (omega arith))
+    (go (leb (suc (length bs)) 10 && all isDigit (b ∷ bs)) (value (b ∷ bs)))
+  where
+    go : (q : Bool) (n : ℕ) → (if q then n else 0) ≡ or-else (if q then some n else none) 0
+    go true n = refl
+    go false n = refl
+
+-- the number, where it is known whether all are digits
 pub value-by : (s : Bytes) (q : Bool) → length s ≤ 10 → all isDigit s ≡ q → upToTen s ≡ if q then value s else 0
 unfolding upToTen digits
 value-by s q h e = rw (le-leb 0 (length s) (omega arith), le-leb (length s) 10 h, e)

@@ -128,26 +128,6 @@ pub fn is_digits(s: &[u8], lo: usize, hi: usize) -> bool
     is_between(s.len(), lo, hi) && all_digits(s)
 }
 
-// The number that at most ten digits stand for; 0 for anything else.
-pub fn value(s: &[u8]) -> u64
-    ensures { λ r. ⌜ r ≡ upToTen (now (s .entry)) ⌝ }
-{
-    if 10 < s.len() {
-        return 0;
-    }
-    let mut n: u64 = 0;
-    let mut i = 0;
-    while i < s.len() {
-        let b = s[i];
-        if !is_digit(b) {
-            return 0;
-        }
-        n = n * 10 + (b - b'0') as u64;
-        i += 1;
-    }
-    n
-}
-
 // The count that digits stand for, where they do.
 pub enum Count {
     Of(u64),
@@ -165,10 +145,29 @@ fn at_most_ten(most: usize) -> usize
 pub fn count_in(s: &[u8], most: usize) -> Count
     ensures { λ r. ⌜ r ≡ counted (countIn (min most 10) (now (s .entry))) ⌝ }
 {
-    if is_digits(s, 1, at_most_ten(most)) {
-        Count::Of(value(s))
-    } else {
-        Count::Nothing
+    if !is_between(s.len(), 1, at_most_ten(most)) {
+        return Count::Nothing;
+    }
+    let mut n: u64 = 0;
+    let mut i = 0;
+    while i < s.len() {
+        let b = s[i];
+        if !is_digit(b) {
+            return Count::Nothing;
+        }
+        n = n * 10 + (b - b'0') as u64;
+        i += 1;
+    }
+    Count::Of(n)
+}
+
+// The number that at most ten digits stand for; 0 for anything else.
+pub fn value(s: &[u8]) -> u64
+    ensures { λ r. ⌜ r ≡ upToTen (now (s .entry)) ⌝ }
+{
+    match count_in(s, 10) {
+        Count::Of(n) => n,
+        Count::Nothing => 0,
     }
 }
 
