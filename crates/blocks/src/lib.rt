@@ -1,13 +1,15 @@
 // The segments of the response's transaction set, ST to SE, all but AK3 and AK4: each a row of pieces after n bytes of a lent buffer.
 ghost use mathlib.Core.Path.{_≡_};
 ghost use mathlib.Core.List.{[], _∷_, _++_, map};
+ghost use Prim.Native.Nat.{_≤_};
+ghost use lib.ListN.{length};
 ghost use Rattle.rules.specs.Base.{ascii, null, if_then_else_};
 ghost use Rattle.rules.specs.Numbers.{decimal};
 ghost use Rattle.rules.specs.Cutting.{field, split};
 ghost use Rattle.rules.specs.Response.{fieldsOut, segmentOut, stOut, seOut};
 ghost use Rattle.verdicts.specs.Collecting.{codesOf};
 ghost use Rattle.verdicts.specs.Verdicts.{summaryOut};
-ghost use Rattle.writing.specs.Over.{Wrote, From};
+ghost use Rattle.writing.specs.Over.{over, Wrote, From};
 use rules::Delimiters;
 use verdicts::Codes;
 use verdicts::Summary;
@@ -62,6 +64,18 @@ pub fn add_ak5(out: &mut [u8], n: usize, d: Delimiters, codes: Codes) -> usize
     writing::add_byte(out, n, d.terminator)
 }
 
+// Bytes over the start of a buffer that has room for them.
+fn copy(out: &mut [u8], bytes: &[u8])
+    requires { ⌜ length (now bytes) ≤ length (now out) ⌝ }
+    ensures { λ r. ⌜ now (out .exit) ≡ over (now (bytes .entry)) (now (out .entry)) ⌝ }
+{
+    let mut i = 0;
+    while i < bytes.len() {
+        out[i] = bytes[i];
+        i += 1;
+    }
+}
+
 // AK2 and AK5 of an accepted set, from the start of what is lent; ST01 and ST02 are given as they stand in its header, each after its separator.
 pub fn put_acceptance(out: &mut [u8], d: Delimiters, fields: &[u8]) -> usize
     ensures { λ r. ⌜ Wrote (ascii "AK2" ++ now (fields .entry) ++ d .terminator ∷ segmentOut d (ascii "AK5" ∷ ascii "A" ∷ [])) r (now (out .entry)) (now (out .exit)) ⌝ }
@@ -69,6 +83,14 @@ pub fn put_acceptance(out: &mut [u8], d: Delimiters, fields: &[u8]) -> usize
     let e = d.element;
     let t = d.terminator;
     let ak5 = [t, b'A', b'K', b'5', e, b'A', t];
+    let n = rules::AK2.len() + fields.len();
+    // Where there is room for all, no piece is clipped.
+    if n + ak5.len() <= out.len() {
+        copy(out, &rules::AK2);
+        copy(&mut out[rules::AK2.len()..], fields);
+        copy(&mut out[n..], &ak5);
+        return n + ak5.len();
+    }
     let n = writing::add_bytes(out, 0, &rules::AK2);
     let n = writing::add_bytes(out, n, fields);
     writing::add_bytes(out, n, &ak5)
