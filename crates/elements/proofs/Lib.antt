@@ -1,4 +1,5 @@
 pub mod Codes
 pub mod Notes
 pub mod Places
+pub mod Broken
 pub mod Checks

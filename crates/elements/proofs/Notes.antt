@@ -16,11 +16,10 @@ use Rattle.rules.specs.Tables.{Syntax}
 use Rattle.tables.specs.Rows.{isRow, syntaxIn}
 use Rattle.rules.specs.declared.Relation.{Relation}
 use Rattle.rules.specs.declared.Relation.the-variants.{P, R, E, C, L}
-use Rattle.rules.proofs.Logic.{or-left, or-right}
 use Rattle.text.proofs.Loops.{and-false}
 use Rattle.tables.specs.Reading.{Guide, noteAt}
 use Rattle.tables.proofs.Laws.{notes-here, notes-skip, notes-stop, notes-end}
-use Rattle.elements.specs.Notes.{breaks, isE, shuts}
+use Rattle.elements.specs.Notes.{breaks, isE}
 
 -- 1. The places after the first present one, at a cursor.
 module _ (s : Segment) (ps : List ℕ) (k : ℕ) where
@@ -40,7 +39,7 @@ module _ (s : Segment) (ps : List ℕ) (k : ℕ) where
 pub rest : (ps : List ℕ) (k : ℕ) → take (length ps - k) (drop k ps) ≡ drop k ps
 rest ps k = take-all (length ps - k) (drop k ps) (simp length-drop (omega arith))
 
-turned : (a b c : Bool) → a && b && c ≡ b && (c && a)
+pub turned : (a b c : Bool) → a && b && c ≡ b && (c && a)
 turned true true true = refl
 turned true true false = refl
 turned true false c = refl
@@ -106,7 +105,7 @@ module _ (s : Segment) (n : ℕ) where
       go false f = refl
       go true f = rw (← eqb-true n p f, e)
 
-  lacking-present : (r : Relation) (ps : List ℕ) → present s n ≡ true → lacking s r ps n ≡ false
+  pub lacking-present : (r : Relation) (ps : List ℕ) → present s n ≡ true → lacking s r ps n ≡ false
   lacking-present P ps e = pair s n ps ∙ rw e (and-false (isPlace n ps))
   lacking-present R [] e = refl
   lacking-present R (p ∷ ps) e = missing p ps e
@@ -122,7 +121,7 @@ module _ (s : Segment) (n : ℕ) where
       go true false c f = refl
       go true true c f = f
 
-  excluded-absent : (r : Relation) (ps : List ℕ) → present s n ≡ false → excluded s r ps n ≡ false
+  pub excluded-absent : (r : Relation) (ps : List ℕ) → present s n ≡ false → excluded s r ps n ≡ false
   excluded-absent E ps e = rw e (and-false (isPlace n (afterPresent s ps)))
   excluded-absent P ps e = refl
   excluded-absent R ps e = refl
@@ -151,18 +150,6 @@ module _ (s : Segment) (n : ℕ) where
   breaks-not false R ps e = absurd (true≢false (sym e))
   breaks-not false C ps e = absurd (true≢false (sym e))
   breaks-not false L ps e = absurd (true≢false (sym e))
-
-  -- where none shuts out, none is broken where an element is present
-  none-shuts : (notes : List Syntax) → any shuts notes ≡ false → any (breaks true s n) notes ≡ false
-  unfolding any
-  none-shuts [] e = refl
-  none-shuts (c ∷ notes) e =
-      let later = any shuts notes in
-      rw (breaks-not true (c .relation) (c .places) (rw (or-left (shuts c) later e))) (none-shuts notes (or-right (shuts c) later e))
-
-  pub unbroken : (notes : List Syntax) (q b : Bool) → q ≡ any shuts notes → q || not b ≡ false → any (breaks b s n) notes ≡ false
-  unbroken notes q true p e = none-shuts notes (sym p ∙ or-left q false e)
-  unbroken notes q false p e = absurd (true≢false (or-right q true e))
 
 -- no difference
 pub alike : (a b : Bool) → not (Bool·beq a b) ≡ false → a ≡ b

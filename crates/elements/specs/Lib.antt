@@ -1,3 +1,4 @@
 pub mod Values
 pub mod Notes
+pub mod Marks
 pub mod Checks

@@ -1,10 +1,10 @@
 -- Syntax notes: whether one is broken at a place, by an element that it asks for or by one that it shuts out.
-use Prim.Native.Nat.{ℕ, zero, suc, _+_, _-_}
-use mathlib.Core.Bool.{Bool, true, false, _||_}
+use Prim.Native.Nat.{ℕ}
+use mathlib.Core.Bool.{Bool, true, false}
 use mathlib.Core.List.{List}
 use Rattle.rules.specs.Base.{any, if_then_else_}
 use Rattle.rules.specs.Cutting.{Segment}
-use Rattle.rules.specs.Elements.{present, lacking, excluded}
+use Rattle.rules.specs.Elements.{lacking, excluded}
 use Rattle.rules.specs.Tables.{Syntax}
 use Rattle.rules.specs.declared.Relation.{Relation}
 use Rattle.rules.specs.declared.Relation.the-variants.{P, R, E, C, L}
@@ -17,9 +17,6 @@ isE R = false
 isE C = false
 isE L = false
 
-abbrev pub shuts : Syntax → Bool
-shuts c = isE (c .relation)
-
 -- the note is broken at place n: it shuts out what is present, or asks for what is absent
 abbrev pub breaks : Bool → Segment → ℕ → Syntax → Bool
 breaks true s n c = excluded s (c .relation) (c .places) n
@@ -28,12 +25,3 @@ breaks false s n c = lacking s (c .relation) (c .places) n
 -- the code that the notes give place n, which is present or absent; 0 for none
 abbrev pub noteCodeBy : Bool → List Syntax → Segment → ℕ → ℕ
 noteCodeBy present notes s n = if any (breaks present s n) notes then (if present then 10 else 2) else 0
-
--- one of the notes is broken at one of count places from place m on
-unfoldable pub breaksFrom : Segment → List Syntax → ℕ → ℕ → Bool
-breaksFrom s notes m zero = false
-breaksFrom s notes m (suc count) = any (breaks (present s m) s m) notes || breaksFrom s notes (m + 1) count
-
--- one of the notes is broken at a place before n
-abbrev pub breaksBefore : ℕ → Segment → List Syntax → Bool
-breaksBefore n s notes = breaksFrom s notes 1 (n - 1)

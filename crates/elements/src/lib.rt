@@ -5,14 +5,15 @@ ghost use mathlib.Core.List.{[], _∷_};
 ghost use Prim.Native.Nat.{_+_, _<_};
 ghost use lib.Dec.{eqb};
 ghost use lib.ListN.{getD, drop};
-ghost use Rattle.rules.specs.Base.{_⇒_, first, any};
+ghost use Rattle.rules.specs.Base.{_⇒_, first, any, all};
 ghost use Rattle.rules.specs.Cutting.{split};
 ghost use Rattle.rules.specs.Elements as law;
 ghost use Rattle.rules.specs.Numbers.{isDate, isTime};
 ghost use Rattle.tables.specs.Rows as rows;
 ghost use Rattle.tables.specs.Reading.{rowAt, noteAt};
 ghost use Rattle.elements.specs.Values.{isText, unlisted, spelledAs, ruleCode, valueCode, takesLength, codeBy};
-ghost use Rattle.elements.specs.Notes.{isE, shuts, breaks, noteCodeBy, breaksBefore};
+ghost use Rattle.elements.specs.Notes.{isE, breaks, noteCodeBy};
+ghost use Rattle.elements.specs.Marks.{noMarks, markedWith, marked, two, brokenBy, breaksNote};
 ghost use Rattle.elements.specs.Checks.{isSome, placeAfter, noteRow, nextStart, fieldAfter, codesAt, surplus, nextFound, start};
 use rules::Delimiters;
 use rules::Kind;
@@ -141,7 +142,7 @@ fn is_text(kind: Kind) -> bool
 }
 
 // Row k asks of a text only how long it is, and takes this length.
-fn takes_length(n: usize, guide: &[[u16; 6]], k: usize) -> bool
+pub fn takes_length(n: usize, guide: &[[u16; 6]], k: usize) -> bool
     ensures { λ r. ⌜ r ≡ takesLength (rowAt (now (guide .entry)) k) n ⌝ }
 {
     let row = tables::element_at(guide, k);
@@ -155,14 +156,14 @@ fn takes_length(n: usize, guide: &[[u16; 6]], k: usize) -> bool
     row.shortest <= n && n <= row.longest
 }
 
-// An element of valid bytes has no code by row k. Most rows ask only for its length, so that is tried first.
+// An element of valid bytes has no code by row k.
 pub fn takes(e: &[u8], guide: &[[u16; 6]], k: usize) -> bool
     ensures { λ r. ⌜ r ≡ eqb (codeBy true (rowAt (now (guide .entry)) k) (now (e .entry))) 0 ⌝ }
 {
     if e.len() == 0 {
         return empty_code(guide, k) == 0;
     }
-    takes_length(e.len(), guide, k) || value_code(e, guide, k) == 0
+    value_code(e, guide, k) == 0
 }
 
 // The place at i, 0 past the end.
@@ -444,52 +445,121 @@ fn field_after(s: &[u8], e: u8, end: usize) -> Field
     }
 }
 
-// Row k is a note that shuts out.
-fn is_shutting(guide: &[[u16; 6]], k: usize) -> bool
-    ensures { λ r. ⌜ r ≡ (rows.isRow 4 (getD (now (guide .entry)) k []) && shuts (noteAt (now (guide .entry)) k)) ⌝ }
-{
-    if !tables::is_note(guide, k) {
-        return false;
-    }
-    shuts_out(tables::relation_at(guide, k))
+// Which places of a segment are present: a bit for each up to place 63, and the bit of the next place.
+pub struct Marks {
+    pub bits: usize,
+    pub next: usize,
 }
 
-// Such a note stands from row `from` on.
-fn shuts_any(guide: &[[u16; 6]], from: usize) -> bool
-    ensures { λ r. ⌜ r ≡ any shuts (rows.syntaxIn (drop from (now (guide .entry)))) ⌝ }
-{
-    let mut k = from;
-    while k < guide.len() {
-        if tables::is_segment(guide, k) {
+impl Marks {
+    // No place so far.
+    pub fn none() -> Marks
+        ensures { λ r. ⌜ r ≡ noMarks ⌝ }
+    {
+        Marks { bits: 0, next: 2 }
+    }
+
+    // One place more, which is present or absent.
+    pub fn with(self, present: bool) -> Marks
+        ensures { λ r. ⌜ r ≡ markedWith self present ⌝ }
+    {
+        let bits = if present {
+            std::num::wrapping_add_usize(self.bits, self.next)
+        } else {
+            self.bits
+        };
+        Marks {
+            bits,
+            next: self.next % 9223372036854775808 * 2,
+        }
+    }
+
+    // Place n is present.
+    fn has(self, n: usize) -> bool
+        ensures { λ r. ⌜ r ≡ marked self n ⌝ }
+    {
+        (self.bits >> (n % 64)) % 2 == 1
+    }
+
+    // One of the places is present.
+    fn any_of(self, places: &[usize]) -> bool
+        ensures { λ r. ⌜ r ≡ any (marked self) (now (places .entry)) ⌝ }
+    {
+        let mut i = 0;
+        while i < places.len() {
+            if self.has(place_at(places, i)) {
+                return true;
+            }
+            i += 1;
+        }
+        false
+    }
+
+    // All of the places are present.
+    fn all_of(self, places: &[usize]) -> bool
+        ensures { λ r. ⌜ r ≡ all (marked self) (now (places .entry)) ⌝ }
+    {
+        let mut i = 0;
+        while i < places.len() {
+            if !self.has(place_at(places, i)) {
+                return false;
+            }
+            i += 1;
+        }
+        true
+    }
+
+    // Two of the places are present.
+    fn two_of(self, places: &[usize]) -> bool
+        ensures { λ r. ⌜ r ≡ two (marked self) (now (places .entry)) ⌝ }
+    {
+        let mut i = 0;
+        while i < places.len() {
+            let place = place_at(places, i);
+            i += 1;
+            if self.has(place) {
+                return self.any_of(&places[i..]);
+            }
+        }
+        false
+    }
+
+    // Of two places at least, the first is present and no other.
+    fn only_first(self, places: &[usize]) -> bool
+        ensures { λ r. ⌜ r ≡ brokenBy (marked self) Relation.L (now (places .entry)) ⌝ }
+    {
+        if places.len() < 2 {
             return false;
         }
-        if is_shutting(guide, k) {
-            return true;
-        }
-        k += 1;
+        self.has(place_at(places, 0)) & !self.any_of(&places[1..])
     }
-    false
-}
 
-// A note of the rows from `from` on is broken at a place before n.
-pub fn breaks_before(s: &[u8], e: u8, guide: &[[u16; 6]], from: usize, n: usize) -> bool
-    ensures { λ r. ⌜ r ≡ breaksBefore n (split e (now (s .entry))) (rows.syntaxIn (drop from (now (guide .entry)))) ⌝ }
-{
-    let notes = first_note(guide, from);
-    // Few entries have a note that shuts out, and no other is broken where an element is present.
-    let shuts = shuts_any(guide, notes);
-    let mut end = text::find_near(s, 0, e);
-    let mut m = 1;
-    while m < n {
-        let field = field_after(s, e, end);
-        let present = field.start < field.end;
-        if (shuts | !present) && breaks_notes(s, e, guide, notes, m, present) {
-            return true;
+    // The relation between the places is broken somewhere.
+    fn breaks(self, relation: Relation, places: &[usize]) -> bool
+        ensures { λ r. ⌜ r ≡ brokenBy (marked self) relation (now (places .entry)) ⌝ }
+    {
+        match relation {
+            Relation::P => self.any_of(places) & !self.all_of(places),
+            Relation::R => (0 < places.len()) & !self.any_of(places),
+            Relation::E => self.two_of(places),
+            Relation::C => self.has(place_at(places, 0)) & !self.all_of(places),
+            Relation::L => self.only_first(places),
         }
-        end = field.end;
-        m += 1;
     }
-    false
+
+    // Row k is a note that is broken somewhere.
+    pub fn breaks_note(self, guide: &[[u16; 6]], k: usize) -> bool
+        ensures { λ r. ⌜ r ≡ (rows.isRow 4 (getD (now (guide .entry)) k []) && breaksNote (marked self) (noteAt (now (guide .entry)) k)) ⌝ }
+    {
+        if !tables::is_note(guide, k) {
+            return false;
+        }
+        let relation = tables::relation_at(guide, k);
+        let places = tables::places_at(guide, k);
+        let numbers = places.numbers;
+        let count = places.count;
+        self.breaks(relation, &numbers[..count])
+    }
 }
 
 // The codes of the next place by the element of the next row, in the next field.

@@ -4,7 +4,7 @@ use lib.Dec.{lit≤}
 use Rattle.rules.specs.Tables.{table006010, table004010}
 use Rattle.tables.specs.Rows.{filled, kindOf, relationOf, codesIn, rowsIn, syntaxIn, entriesIn, idsIn, tableOf}
 use Rattle.rules.proofs.Open.{everything}
-use Rattle.tables.specs.Reading.{Limits, Orderly, idsAreBytes, idsDiffer}
+use Rattle.tables.specs.Reading.{Limits, Orderly, idsAreBytes, idsDiffer, followed}
 use Rattle.guides.specs.Encoded.{guide006010, guide004010, directoryRows}
 
 -- what rows of numbers mean, and the definitions of document 01, opened at once
@@ -29,9 +29,9 @@ unfolding meaning guide004010 idsAreBytes
 limits-004010 = record { begins = refl; few = lit≤ tt; ids = refl }
 
 pub orderly-006010 : Orderly directoryRows guide006010
-unfolding meaning directoryRows guide006010 idsDiffer
-orderly-006010 = record { known = refl; differ = refl }
+unfolding meaning directoryRows guide006010 idsDiffer followed
+orderly-006010 = record { known = refl; differ = refl; few = refl; named = refl; last = refl }
 
 pub orderly-004010 : Orderly directoryRows guide004010
-unfolding meaning directoryRows guide004010 idsDiffer
-orderly-004010 = record { known = refl; differ = refl }
+unfolding meaning directoryRows guide004010 idsDiffer followed
+orderly-004010 = record { known = refl; differ = refl; few = refl; named = refl; last = refl }

@@ -3,8 +3,9 @@ use mathlib.Core.Path.{_≡_, refl, sym, ap, _∙_}
 use mathlib.Core.Bool.{Bool, true, false, _&&_}
 use mathlib.Core.List.{List, [], _∷_, _++_}
 use Prim.Native.Nat.{ℕ, zero, suc, _+_, _-_, _<_, _≤_}
+use native.Mathlib.Numerals.{add-one}
 use native.Mathlib.Omega.{arith}
-use borrow.Author.Tests.{lt-ltb, ltb-true, ltb-false}
+use borrow.Author.Tests.{lt-ltb, ltb-true, ltb-false, leb-true}
 use lib.Dec.{eqb, ltb}
 use lib.ListN.{length, getD, take, drop}
 use Rattle.rules.specs.Base.{Bytes, null, listed, if_then_else_}
@@ -15,9 +16,9 @@ use Rattle.rules.specs.declared.Delimiters.{Delimiters}
 use Rattle.rules.proofs.SetLaws.{SE-ST}
 use Rattle.text.specs.Text.{indexOf, nextWhere, part}
 use Rattle.segments.proofs.Pieces.{segments-at}
-use Rattle.tables.specs.Rows.{isRow}
-use Rattle.tables.specs.Reading.{Guide, Limits, Orderly, entryAt}
-use Rattle.tables.proofs.Laws.{row-within}
+use Rattle.tables.specs.Rows.{isRow, rowsIn}
+use Rattle.tables.specs.Reading.{Guide, Limits, Orderly, entryAt, rowBelow, hasFew, namesOwn, hasNone}
+use Rattle.tables.proofs.Laws.{row-within, followed-from, followed-at}
 use Rattle.sets.specs.Places.{closedAt, unclosedAt, setFrom, setAt}
 use Rattle.sets.specs.declared.SetAt.{SetAt}
 use Rattle.sets.proofs.Turns.{set-opens, set-goes, set-ends}
@@ -39,7 +40,7 @@ use Rattle.look.specs.declared.Course.{Course}
 use Rattle.look.specs.declared.Turn.{Turn}
 use Rattle.look.specs.declared.Turn.the-variants as turn
 use Rattle.look.specs.declared.Step.the-variants as step
-use Rattle.look.proofs.Passing.{passed-law, id-field}
+use Rattle.look.proofs.Passing.{Fits, passed-law, id-field}
 use Rattle.look.proofs.Turning.{Keeps, Agrees, turn-agrees}
 
 -- 1. What a look answers, by the set's place and what is told of it.
@@ -81,11 +82,22 @@ module _ (d : Delimiters) (ids : List (List ℕ)) (rows : Guide) (body : Bytes) 
     id-here : take (idEnd d (drop at body)) (drop at body) ≡ field here 0
     id-here = id-field d (drop at body) ∙ ap (λ (s : Segment). field s 0) cut-here
 
+    fits : (row : ℕ) → isRow 1 (getD rows row []) ≡ true → (let below = drop (rowBelow rows row) rows in Fits 1 (length (rowsIn below)) below)
+    fits row e =
+        let h = row-within 1 (omega arith) rows row e in
+        rw (lt-ltb row (length rows) h, add-one)
+        (record {
+          size = omega arith;
+          few = leb-true _ _ (followed-at 1 hasFew rows row (orderly .few) h e);
+          named = followed-at 1 namesOwn rows row (orderly .named) h e;
+          last = followed-from 4 hasNone rows (suc row) (orderly .last);
+        })
+
     pass-here : (row : ℕ) → isRow 1 (getD rows row []) ≡ true
         → passed (validBytes d) d (drop at body) rows row (idEnd d (drop at body))
         ≡ (if null (findings d (entryAt rows row) here) then Clean (indexOf (d .terminator) (drop at body)) (nextWhere (isRow 1) rows (row + 1)) else Faulty)
     pass-here row e =
-        rw (← cut-here, passed-law d apart (drop at body) rows row, lt-ltb row (length rows) (row-within 1 (omega arith) rows row e))
+        rw (← cut-here, passed-law d apart (drop at body) rows row (fits row e), lt-ltb row (length rows) (row-within 1 (omega arith) rows row e))
 
   -- 3. The segments after the header.
   module _ (start header : ℕ) where

@@ -16,27 +16,97 @@ use Rattle.rules.specs.Elements.{elementCode, present, placeCodes, found, findi
 use Rattle.rules.specs.Tables.{Row, Syntax}
 use Rattle.rules.specs.declared.Delimiters.{Delimiters}
 use Rattle.rules.specs.declared.Finding.{Finding}
-use Rattle.rules.proofs.Logic.{and-right, or-left}
+use Rattle.rules.proofs.Logic.{and-left, and-right, or-left}
 use Rattle.text.specs.Text.{indexWhere, indexOf, nextWhere, part}
-use Rattle.text.proofs.Loops.{and-true, and-false, or-false, or-assoc}
+use Rattle.text.proofs.Loops.{and-true, and-false}
 use Rattle.text.proofs.Where.{index-le, next-here}
 use Rattle.segments.proofs.Fields.{FieldAt, field-first, field-next, field-at, field-some, field-none}
-use Rattle.tables.specs.Rows.{isRow, rowIs, codesIn, rowsIn, syntaxIn}
-use Rattle.tables.specs.Reading.{Guide, entryAt, rowBelow}
+use Rattle.tables.specs.Rows.{column, isRow, rowIs, noteIs, codesIn, rowsIn, syntaxIn}
+use Rattle.tables.specs.Reading.{Guide, entryAt, rowBelow, followed, namesWithin, hasNone}
 use Rattle.tables.proofs.Laws.{below-rest}
 use Rattle.elements.specs.Values.{codeBy}
-use Rattle.elements.specs.Notes.{breaks, breaksFrom, breaksBefore}
+use Rattle.elements.specs.Notes.{breaks}
+use Rattle.elements.specs.Marks.{noMarks, markedWith, marked, breaksNote}
+use Rattle.elements.specs.declared.Marks.{Marks}
 use Rattle.elements.specs.Checks.{nextStart, fieldAfter}
 use Rattle.elements.proofs.Codes.{code-is}
-use Rattle.elements.proofs.Places.{after-order, after-within, next-field, next-at, place-codes}
+use Rattle.elements.proofs.Broken.{anyFrom, notes-broken, Marked, marked-none, marked-next, marked-notes}
+use Rattle.elements.proofs.Places.{after-order, after-within, next-field, next-present, next-at, place-codes}
 use Rattle.look.specs.Bytes.{validBytes, isOther}
-use Rattle.look.specs.Passing.{Stop, idEnd, startAfter, isOver, readRows, passedBy, passed}
+use Rattle.look.specs.Passing.{idEnd, startAfter, isOver, readRows, passedBy, passed}
 use Rattle.look.specs.declared.segment.Passed.{Passed}
 use Rattle.look.specs.declared.segment.Passed.the-variants.{Clean, Faulty}
 use Rattle.look.proofs.Bytes.{table-valid}
 use Rattle.look.proofs.Reading.{read-skip, read-row, read-stop, read-end}
 
--- 1. Searches in bytes that are cut off.
+-- 1. The rows of an entry that are left from place n on.
+-- its elements are so many, 62 at most; the notes name only their places, and stand after them
+pub record Fits (n count : ℕ) (rs : Guide) : Type 0 where
+  pub size : n + length (rowsIn rs) ≡ count + 1
+  pub few : count ≤ 62
+  pub named : all (namesWithin count) (syntaxIn rs) ≡ true
+  pub last : followed 4 hasNone rs ≡ true
+
+-- an element is no note
+other-row : (r : List ℕ) → isRow 2 r ≡ true → isRow 4 r ≡ false
+other-row r e = let z = eqb-true (column r 0) 2 e in rw z
+
+notes-over : (r : List ℕ) (rs : Guide) → isRow 1 r ≡ false → isRow 4 r ≡ false → syntaxIn (r ∷ rs) ≡ syntaxIn rs
+unfolding syntaxIn
+notes-over r rs p q = rw (p, q)
+
+nothing : {A : Type 0} (xs : List A) → null xs ≡ true → xs ≡ []
+nothing [] e = refl
+nothing (x ∷ xs) e = absurd (true≢false (sym e))
+
+module _ {n count : ℕ} {rs : Guide} (w : Fits n count rs) where
+  fits-low : n ≤ 63
+  fits-low = omega (arith, w .size, w .few)
+
+  -- where no element is left, the notes name only places before place n
+  named-all : rowsIn rs ≡ [] → all (namesWithin (n - 1)) (syntaxIn rs) ≡ true
+  named-all e = let z : n - 1 ≡ count = omega (arith, rw e at (w .size)) in rw z (w .named)
+
+module _ {n count : ℕ} {r : List ℕ} {rs : Guide} (w : Fits n count (r ∷ rs)) (p : isRow 1 r ≡ false) where
+  later : followed 4 hasNone rs ≡ true
+  unfolding followed
+  later = and-right (not (isRow 4 r) || hasNone rs) (followed 4 hasNone rs) (w .last)
+
+  fits-over : isRow 2 r ≡ false → isRow 4 r ≡ false → Fits n count rs
+  unfolding rowsIn
+  fits-over q z = record { size = rw (p, q) at (w .size); few = w .few; named = rw (notes-over r rs p z) at (w .named); last = later }
+
+  module _ (q : isRow 2 r ≡ true) where
+    one-less : n + suc (length (rowsIn rs)) ≡ count + 1
+    unfolding rowsIn
+    one-less = rw (p, q) at (w .size)
+
+    fits-more : n ≤ 62
+    fits-more = omega (arith, one-less, w .few)
+
+    fits-next : Fits (n + 1) count rs
+    fits-next = record { size = omega (arith, one-less); few = w .few; named = rw (notes-over r rs p (other-row r q)) at (w .named); last = later }
+
+-- what the rows after the last element come to
+read-notes : (table : List Bool) (d : Delimiters) (rest : Bytes) (rs : Guide) (end : ℕ) (m : Marks) → rowsIn rs ≡ []
+    → readRows table d rest rs end m ≡ (if any (breaksNote (marked m)) (syntaxIn rs) then none else some end)
+unfolding readRows rowsIn syntaxIn any
+read-notes table d rest [] end m e = refl
+read-notes table d rest (r ∷ rs) end m e = by (isRow 1 r) refl (isRow 2 r) refl (isRow 4 r) refl (read-notes table d rest rs end m)
+  where
+    by : (a : Bool) → isRow 1 r ≡ a → (b : Bool) → isRow 2 r ≡ b → (o : Bool) → isRow 4 r ≡ o
+        → (rowsIn rs ≡ [] → readRows table d rest rs end m ≡ (if any (breaksNote (marked m)) (syntaxIn rs) then none else some end))
+        → readRows table d rest (r ∷ rs) end m ≡ (if any (breaksNote (marked m)) (syntaxIn (r ∷ rs)) then none else some end)
+    by true p b q o z f = rw p
+    by false p true q o z f = let e′ : _≡_ {A = List Row} (rowIs r (codesIn rs) ∷ rowsIn rs) [] = rw (p, q) at e in let y : _≡_ {A = ℕ} 0 1 = cc in absurd (omega arith)
+    by false p false q false z f = rw (p, q, z) (f (rw (p, q) at e))
+    by false p false q true z f = rw (p, q, z, f (rw (p, q) at e)) (go (breaksNote (marked m) (noteIs r)) (any (breaksNote (marked m)) (syntaxIn rs)))
+      where
+        go : (b c : Bool) → _≡_ {A = Option ℕ} (if b then none else (if c then none else some end)) (if b || c then none else some end)
+        go true c = refl
+        go false c = refl
+
+-- 2. Searches in bytes that are cut off.
 -- what a search finds passes its test
 index-hit : (p : ℕ → Bool) (xs : Bytes) → indexWhere p xs < length xs → p (getD xs (indexWhere p xs) 0) ≡ true
 unfolding indexWhere
@@ -106,7 +176,7 @@ part-cut m (suc i) zero xs h = absurd (omega arith)
 part-cut m (suc i) (suc n) [] h = refl
 part-cut m (suc i) (suc n) (x ∷ xs) h = part-cut m i n xs (omega arith)
 
--- 2. The id.
+-- 3. The id.
 -- the first separator or terminator is the first separator before the terminator, or the terminator
 either-cut : (e t : ℕ) (xs : Bytes) → indexWhere (λ b. eqb b e || eqb b t) xs ≡ indexOf e (take (indexOf t xs) xs)
 unfolding indexWhere
@@ -138,16 +208,7 @@ module _ (d : Delimiters) (rest : Bytes) where
       let size : idEnd d rest - 0 ≡ idEnd d rest = omega arith in
       sym (rw size at (field-at {e = d .element} {s = take end rest} field-first id-cut) ∙ take-take (idEnd d rest) end rest id-before)
 
--- 3. The places of a segment.
--- one place more at which a note may be broken
-breaks-more : (s : Segment) (notes : List Syntax) (m count : ℕ)
-    → breaksFrom s notes m (suc count) ≡ breaksFrom s notes m count || any (breaks (present s (m + count)) s (m + count)) notes
-unfolding breaksFrom
-breaks-more s notes m zero = let e : m + 0 ≡ m = omega arith in rw (e, or-false (any (breaks (present s m) s m) notes))
-breaks-more s notes m (suc count) =
-    let e : m + 1 + count ≡ m + suc count = omega arith in
-    rw (breaks-more s notes (m + 1) count, e) (sym (or-assoc (any (breaks (present s m) s m) notes) _ _))
-
+-- 4. The places of a segment.
 -- the code of a value that has a byte which is not valid
 code-spoiled : (d : Delimiters) (r : Row) (e : Bytes) → all (valid d) e ≡ false → eqb (elementCode d r e) 0 ≡ false
 unfolding codeBy all
@@ -184,6 +245,21 @@ module _ (d : Delimiters) (notes : List Syntax) (s : Segment) where
       go : (codes : List ℕ) → null (map (found n r) codes ++ findingsFrom d notes s (n + 1) rs) ≡ null codes && silentBy (n + 1) rs
       go [] = refl
       go (c ∷ codes) = refl
+
+-- what is found is found in the values, or by the notes
+silent-notes : (d : Delimiters) (notes : List Syntax) (s : Segment) (rs : List Row) (n : ℕ)
+    → silentBy d notes s n rs ≡ silentBy d [] s n rs && not (anyFrom (λ m. any (breaks (present s m) s m) notes) n (length rs))
+unfolding findingsFrom anyFrom any
+silent-notes d notes s [] n = sym (and-true (silentBy d [] s n []))
+silent-notes d notes s (r ∷ rs) n =
+    rw (silent-row d notes s r rs n refl, silent-row d [] s r rs n refl, silent-notes d notes s rs (n + 1))
+    (go (eqb (elementCode d r (field s n)) 0) (any (breaks (present s n) s n) notes) (silentBy d [] s (n + 1) rs) (anyFrom (λ m. any (breaks (present s m) s m) notes) (n + 1) (length rs)))
+  where
+    go : (good here later broken : Bool) → (good && not here) && (later && not broken) ≡ ((good && true) && later) && not (here || broken)
+    go true true true broken = refl
+    go true true false broken = refl
+    go true false later broken = refl
+    go false here later broken = refl
 
 -- after the rows no field is left
 silent-end : (d : Delimiters) (notes : List Syntax) {e : ℕ} {s : Bytes} {n : ℕ} (end : ℕ) → FieldAt e s n (end + 1)
@@ -230,7 +306,7 @@ module _ (d : Delimiters) where
       go false p true q f = rw q (stops-more (all (valid d) (take (indexOf (d .element) xs) xs)) (stop xs) (indexOf (d .element) xs) f)
       go false p false q f = rw q (zero-lt-suc (indexOf (d .element) xs))
 
--- 4. The fields after the id: the bytes up to the terminator are the segment's, and those of its fields are valid.
+-- 5. The fields after the id: the bytes up to the terminator are the segment's, and those of its fields are valid.
 module _ (d : Delimiters) (apart : eqb (d .element) (d .terminator) ≡ false) (rest : Bytes) where
   -- where the segment ends, its bytes, and its fields
   abbrev last : ℕ
@@ -383,7 +459,7 @@ module _ (d : Delimiters) (apart : eqb (d .element) (d .terminator) ≡ false) (
         ends = λ h. rw end-is (sym (getD-drop (from) bytes (indexOf (d .element) xs) 0) ∙ separator xs (omega (arith, end-is, length-drop (from) bytes)));
       })
 
-  -- 5. The rows of the entry.
+  -- 6. The rows of the entry.
   -- a byte stands there that is neither valid nor a separator nor the terminator: the look is stuck
   record Stuck (end : ℕ) : Type 0 where
     pub within : end < length rest
@@ -392,113 +468,114 @@ module _ (d : Delimiters) (apart : eqb (d .element) (d .terminator) ≡ false) (
     pub apart-t : eqb (getD rest end 0) (d .terminator) ≡ false
 
   module _ (rows : Guide) (below : ℕ) where
-    -- the notes of the entry, and what the look comes to from place n on by these rows
-    abbrev notes : List Syntax
-    notes = syntaxIn (drop below rows)
-
-    abbrev come : Guide → ℕ → ℕ → Passed
-    come rs n end = passedBy (validBytes d) d rest rows below (readRows (validBytes d) d rest rs n end)
+    -- what the look comes to by these rows
+    abbrev come : Guide → ℕ → Marks → Passed
+    come rs end m = passedBy (validBytes d) d rest rows below (readRows (validBytes d) d rest rs end m)
 
     -- where it is stuck, something is found
-    stuck-rows : (rs : Guide) (n end : ℕ) → Stuck end → come rs n end ≡ Faulty
+    stuck-rows : (rs : Guide) (end : ℕ) (m : Marks) → Stuck end → come rs end m ≡ Faulty
     unfolding startAfter isOver
-    stuck-rows rs n end s = go rs n
+    stuck-rows rs end m s = go rs m
       where
-        over : (n : ℕ) → passedBy (validBytes d) d rest rows below (some (record { place = n; end = end })) ≡ Faulty
-        over n = rw (lt-ltb end (length rest) (s .within), s .apart-t)
+        over : passedBy (validBytes d) d rest rows below (some end) ≡ Faulty
+        over = rw (lt-ltb end (length rest) (s .within), s .apart-t)
 
         stays : startAfter (d .element) rest end ≡ end
         stays = rw (lt-ltb end (length rest) (s .within), s .apart-e)
 
-        go : (rs : Guide) (n : ℕ) → come rs n end ≡ Faulty
-        go [] n = rw (read-end (validBytes d) d rest [] 0 n end (omega arith)) (over n)
-        go (r ∷ rs) n = by (isRow 1 r) refl (isRow 2 r) refl (go rs)
+        go : (rs : Guide) (m : Marks) → come rs end m ≡ Faulty
+        go [] m = rw (read-end (validBytes d) d rest [] 0 end m (omega arith)) over
+        go (r ∷ rs) m = by (isRow 1 r) refl (isRow 2 r) refl (go rs)
           where
-            by : (a : Bool) → isRow 1 r ≡ a → (b : Bool) → isRow 2 r ≡ b → ((m : ℕ) → come rs m end ≡ Faulty) → come (r ∷ rs) n end ≡ Faulty
-            by true p b q f = rw (read-stop (validBytes d) d rest (r ∷ rs) 0 n end p) (over n)
-            by false p false q f = rw (read-skip (validBytes d) d rest (r ∷ rs) 0 n end (omega arith) p q) (f n)
+            by : (a : Bool) → isRow 1 r ≡ a → (b : Bool) → isRow 2 r ≡ b → ((n : Marks) → come rs end n ≡ Faulty) → come (r ∷ rs) end m ≡ Faulty
+            by true p b q f = rw (read-stop (validBytes d) d rest (r ∷ rs) 0 end m p) over
+            by false p false q f = rw (read-skip (validBytes d) d rest (r ∷ rs) 0 end m (omega arith) p q) (skipped (isRow 4 r && breaksNote (marked m) (noteIs r)))
+              where
+                skipped : (g : Bool) → passedBy (validBytes d) d rest rows below (if g then none else readRows (validBytes d) d rest rs end m) ≡ Faulty
+                skipped true = refl
+                skipped false = f m
             by false p true q f =
-                rw (read-row (validBytes d) d rest (r ∷ rs) 0 n end (omega arith) p q, stays, next-here (isOther (validBytes d)) rest 0 end (s .within) (s .spoils))
+                rw (read-row (validBytes d) d rest (r ∷ rs) 0 end m (omega arith) p q, stays, next-here (isOther (validBytes d)) rest 0 end (s .within) (s .spoils))
                 (taken (eqb (codeBy true (rowIs r (codesIn rs)) (part rest end end)) 0))
               where
                 taken : (g : Bool)
-                    → passedBy (validBytes d) d rest rows below (if g then readRows (validBytes d) d rest rs (n + 1) end else none) ≡ Faulty
-                taken true = f (n + 1)
+                    → passedBy (validBytes d) d rest rows below (if g then readRows (validBytes d) d rest rs end (markedWith m (ltb end end)) else none) ≡ Faulty
+                taken true = f (markedWith m (ltb end end))
                 taken false = refl
 
-    -- no finding is left from place n on by these rows
+    -- no value from place n on has a code by these rows, and no note of these is broken
     abbrev silent : Guide → ℕ → Bool
-    silent rs n = silentBy d notes fields n (rowsIn rs)
+    silent rs n = silentBy d [] fields n (rowsIn rs)
 
-    -- the look comes to what the findings and the notes say
-    abbrev Says : Guide → ℕ → ℕ → Type 0
-    Says rs n end =
-        come rs n end ≡ (if not (breaksBefore n fields notes) && silent rs n then Clean last (nextWhere (isRow 1) rows below) else Faulty)
+    abbrev sound : Guide → Bool
+    sound rs = not (any (breaksNote (present fields)) (syntaxIn rs))
 
-    -- after the last row
-    come-end : (rs : Guide) (n end : ℕ) → Come n end → rowsIn rs ≡ [] → readRows (validBytes d) d rest rs n end ≡ some (record { place = n; end = end })
-        → Says rs n end
-    come-end rs n end c p q = rw (q, over-is c, p, silent-end d notes end (c .at)) (go (leb (length bytes) end) refl)
+    -- the look comes to what these say
+    abbrev Says : Guide → ℕ → ℕ → Marks → Type 0
+    Says rs n end m = come rs end m ≡ (if silent rs n && sound rs then Clean last (nextWhere (isRow 1) rows below) else Faulty)
+
+    -- after the last element
+    come-notes : (rs : Guide) (n end : ℕ) (m : Marks) → Come n end → Marked (present fields) n m → n ≤ 63 → rowsIn rs ≡ []
+        → all (namesWithin (n - 1)) (syntaxIn rs) ≡ true → Says rs n end m
+    come-notes rs n end m c k h p w =
+        rw (read-notes (validBytes d) d rest rs end m p, marked-notes k h (syntaxIn rs) w, p, silent-end d [] end (c .at))
+        (go (any (breaksNote (present fields)) (syntaxIn rs)))
       where
-        go : (b : Bool) → leb (length bytes) end ≡ b
-            → (if b && not (breaksBefore n (split (d .element) (take end rest)) notes) then Clean end (nextWhere (isRow 1) rows below) else Faulty)
-            ≡ (if not (breaksBefore n fields notes) && b then Clean last (nextWhere (isRow 1) rows below) else Faulty)
-        go true e =
+        ends : (b : Bool) → leb (length bytes) end ≡ b
+            → (if b then Clean end (nextWhere (isRow 1) rows below) else Faulty) ≡ (if b && true then Clean last (nextWhere (isRow 1) rows below) else Faulty)
+        ends true e =
             let l = leb-true (length bytes) end e in
-            let m : end ≡ last = omega (arith, size, c .within) in
-            rw (m, and-true (not (breaksBefore n fields notes)))
-        go false e = rw (and-false (not (breaksBefore n fields notes)))
+            let z : end ≡ last = omega (arith, size, c .within) in
+            rw z
+        ends false e = refl
+
+        go : (broken : Bool)
+            → passedBy (validBytes d) d rest rows below (if broken then none else some end)
+            ≡ (if leb (length bytes) end && not broken then Clean last (nextWhere (isRow 1) rows below) else Faulty)
+        go true = rw (and-false (leb (length bytes) end))
+        go false = rw (over-is c) (ends (leb (length bytes) end) refl)
 
     -- the row of an element: the bytes of its field are valid, or the look is stuck in it
-    module _ (r : List ℕ) (rs : Guide) (n end : ℕ) (some-place : 1 ≤ n) (c : Come n end) (no-segment : isRow 1 r ≡ false) (element : isRow 2 r ≡ true) where
+    module _ (r : List ℕ) (rs : Guide) (n end : ℕ) (m : Marks) (c : Come n end) (no-segment : isRow 1 r ≡ false) (element : isRow 2 r ≡ true) where
       abbrev row : Row
       row = rowIs r (codesIn rs)
 
       abbrev good : Bool
       good = eqb (codeBy true row (part rest (start c) (next c))) 0
 
-      abbrev broken : Bool
-      broken = any (breaks (present fields n) fields n) notes
+      -- the marks with its place
+      abbrev more : Marks
+      more = markedWith m (ltb (start c) (next c))
 
       -- what the row comes to
-      read : come (r ∷ rs) n end
-          ≡ passedBy (validBytes d) d rest rows below (if good then readRows (validBytes d) d rest rs (n + 1) (next c) else none)
-      read = ap (passedBy (validBytes d) d rest rows below) (read-row (validBytes d) d rest (r ∷ rs) 0 n end (omega arith) no-segment element)
+      read : come (r ∷ rs) end m ≡ passedBy (validBytes d) d rest rows below (if good then readRows (validBytes d) d rest rs (next c) more else none)
+      read = ap (passedBy (validBytes d) d rest rows below) (read-row (validBytes d) d rest (r ∷ rs) 0 end m (omega arith) no-segment element)
 
       -- what is left to be found
-      left : {b : Bool} → b ≡ eqb (elementCode d row (field fields n)) 0 → silent (r ∷ rs) n ≡ (b && not broken) && silent rs (n + 1)
-      unfolding rowsIn
-      left q = rw (no-segment, element) (silent-row d notes fields row (rowsIn rs) n q)
+      left : {b : Bool} → b ≡ eqb (elementCode d row (field fields n)) 0 → silent (r ∷ rs) n ≡ (b && true) && silent rs (n + 1)
+      unfolding rowsIn any
+      left q = rw (no-segment, element) (silent-row d [] fields row (rowsIn rs) n q)
+
+      same-notes : syntaxIn (r ∷ rs) ≡ syntaxIn rs
+      same-notes = notes-over r rs no-segment (other-row r element)
 
       -- where they are, the value and the rows after it decide
-      row-taken : all (valid d) (field fields n) ≡ true → Says rs (n + 1) (next c) → Says (r ∷ rs) n end
+      row-taken : all (valid d) (field fields n) ≡ true → Says rs (n + 1) (next c) more → Says (r ∷ rs) n end m
       row-taken e f =
           let code : codeBy true row (field fields n) ≡ elementCode d row (field fields n) = rw e at (code-is d row (field fields n)) in
           let said : good ≡ eqb (elementCode d row (field fields n)) 0 = rw (field-is c e, code) in
-          rw (read, left said)
-          (go good (readRows (validBytes d) d rest rs (n + 1) (next c)) (breaksBefore n fields notes) broken (silent rs (n + 1))
-          (f ∙ ap (λ (b : Bool). if not b && silent rs (n + 1) then Clean last (nextWhere (isRow 1) rows below) else Faulty) broken-before))
+          rw (read, left said, same-notes) (go good (readRows (validBytes d) d rest rs (next c) more) (silent rs (n + 1)) (sound rs) f)
         where
-          broken-before : breaksBefore (n + 1) fields notes ≡ breaksBefore n fields notes || broken
-          broken-before =
-              let p : n + 1 - 1 ≡ suc (n - 1) = omega arith in
-              let q : 1 + (n - 1) ≡ n = omega arith in
-              rw (p, breaks-more fields notes 1 (n - 1), q)
-
-          go : (good : Bool) (s : Option Stop) (before here rest-silent : Bool)
-              → passedBy (validBytes d) d rest rows below s ≡ (if not (before || here) && rest-silent then Clean last (nextWhere (isRow 1) rows below) else Faulty)
+          go : (good : Bool) (s : Option ℕ) (silent sound : Bool)
+              → passedBy (validBytes d) d rest rows below s ≡ (if silent && sound then Clean last (nextWhere (isRow 1) rows below) else Faulty)
               → passedBy (validBytes d) d rest rows below (if good then s else none)
-              ≡ (if not before && ((good && not here) && rest-silent) then Clean last (nextWhere (isRow 1) rows below) else Faulty)
-          go true s true here left g = g
-          go true s false true left g = g
-          go true s false false left g = g
-          go false s true here left g = refl
-          go false s false here left g = refl
+              ≡ (if ((good && true) && silent) && sound then Clean last (nextWhere (isRow 1) rows below) else Faulty)
+          go true s silent sound g = g
+          go false s silent sound g = refl
 
       -- where they are not, its value has a code, and the look is stuck
-      row-stuck : all (valid d) (field fields n) ≡ false → Says (r ∷ rs) n end
-      row-stuck e =
-          rw (read, left (sym (code-spoiled d row (field fields n) e)), and-false (not (breaksBefore n fields notes))) (go good)
+      row-stuck : all (valid d) (field fields n) ≡ false → Says (r ∷ rs) n end m
+      row-stuck e = rw (read, left (sym (code-spoiled d row (field fields n) e))) (go good)
         where
           stuck : Stuck (next c)
           stuck =
@@ -516,32 +593,45 @@ module _ (d : Delimiters) (apart : eqb (d .element) (d .terminator) ≡ false) (
               }
 
           go : (good : Bool)
-              → passedBy (validBytes d) d rest rows below (if good then readRows (validBytes d) d rest rs (n + 1) (next c) else none) ≡ Faulty
-          go true = stuck-rows rs (n + 1) (next c) stuck
+              → passedBy (validBytes d) d rest rows below (if good then readRows (validBytes d) d rest rs (next c) more else none) ≡ Faulty
+          go true = stuck-rows rs (next c) more stuck
           go false = refl
 
     -- row by row
-    come-rows : (rs : Guide) (n end : ℕ) → 1 ≤ n → Come n end → Says rs n end
-    unfolding rowsIn
-    come-rows [] n end h c = come-end [] n end c refl (read-end (validBytes d) d rest [] 0 n end (omega arith))
-    come-rows (r ∷ rs) n end h c = by (isRow 1 r) refl (isRow 2 r) refl (come-rows rs)
+    come-rows : (rs : Guide) (n end : ℕ) (m : Marks) (count : ℕ) → Come n end → Marked (present fields) n m → Fits n count rs → Says rs n end m
+    unfolding rowsIn followed
+    come-rows [] n end m count c k w = come-notes [] n end m c k (fits-low w) refl (named-all w refl)
+    come-rows (r ∷ rs) n end m count c k w = by (isRow 1 r) refl (isRow 2 r) refl (isRow 4 r) refl (come-rows rs)
       where
-        by : (a : Bool) → isRow 1 r ≡ a → (b : Bool) → isRow 2 r ≡ b → ((m i : ℕ) → 1 ≤ m → Come m i → Says rs m i) → Says (r ∷ rs) n end
-        by true p b q f = come-end (r ∷ rs) n end c (rw p) (read-stop (validBytes d) d rest (r ∷ rs) 0 n end p)
-        by false p false q f = rw (read-skip (validBytes d) d rest (r ∷ rs) 0 n end (omega arith) p q, p, q) (f n end h c)
-        by false p true q f = by-bytes (all (valid d) (field fields n)) refl
+        by : (a : Bool) → isRow 1 r ≡ a → (b : Bool) → isRow 2 r ≡ b → (o : Bool) → isRow 4 r ≡ o
+            → ((i j : ℕ) (v : Marks) (top : ℕ) → Come i j → Marked (present fields) i v → Fits i top rs → Says rs i j v) → Says (r ∷ rs) n end m
+        by true p b q o z f = come-notes (r ∷ rs) n end m c k (fits-low w) (rw p) (named-all w (rw p))
+        by false p false q true z f = come-notes (r ∷ rs) n end m c k (fits-low w) none-left (named-all w none-left)
           where
-            by-bytes : (b : Bool) → all (valid d) (field fields n) ≡ b → Says (r ∷ rs) n end
-            by-bytes true e = row-taken r rs n end h c p q e (f (n + 1) (next c) (omega arith) (come-next c e))
-            by-bytes false e = row-stuck r rs n end h c p q e
+            none-left : rowsIn (r ∷ rs) ≡ []
+            none-left = rw (p, q) (nothing (rowsIn rs) (rw z at (and-left (not (isRow 4 r) || hasNone rs) (followed 4 hasNone rs) (w .last))))
+        by false p false q false z f =
+            rw (read-skip (validBytes d) d rest (r ∷ rs) 0 end m (omega arith) p q, z, p, q, notes-over r rs p z) (f n end m count c k (fits-over w p q z))
+        by false p true q o z f = by-bytes (all (valid d) (field fields n)) refl
+          where
+            by-bytes : (b : Bool) → all (valid d) (field fields n) ≡ b → Says (r ∷ rs) n end m
+            by-bytes true e =
+                let l : n ≤ 62 = fits-more w p q in
+                let has : ltb (start c) (next c) ≡ present fields n = rw (whole c e, start-is c) (sym (next-present (c .at) (c .within))) in
+                row-taken r rs n end m c p q e (f (n + 1) (next c) (markedWith m (ltb (start c) (next c))) count (come-next c e) (marked-next k l has) (fits-next w p q))
+            by-bytes false e = row-stuck r rs n end m c p q e
 
 -- A look at a segment comes to what its findings are: it ends at the terminator and has none, or there is one.
 pub passed-law : (d : Delimiters) → eqb (d .element) (d .terminator) ≡ false → (rest : Bytes) (rows : Guide) (entry : ℕ)
+    → (let below = drop (rowBelow rows entry) rows in Fits 1 (length (rowsIn below)) below)
     → passed (validBytes d) d rest rows entry (idEnd d rest)
     ≡ (let end = indexOf (d .terminator) rest in
     if null (findings d (entryAt rows entry) (split (d .element) (take end rest)))
     then Clean end (nextWhere (isRow 1) rows (rowBelow rows entry)) else Faulty)
-unfolding passed findings breaksFrom
-passed-law d apart rest rows entry =
+unfolding passed findings
+passed-law d apart rest rows entry w =
     let below = rowBelow rows entry in
-    rw (← below-rest rows entry refl) (come-rows d apart rest rows below (drop below rows) 1 (idEnd d rest) (omega arith) (come-first d apart rest))
+    let rs = drop below rows in
+    let s = split (d .element) (take (indexOf (d .terminator) rest) rest) in
+    rw (← below-rest rows entry refl, silent-notes d (syntaxIn rs) s (rowsIn rs) 1, notes-broken s (length (rowsIn rs)) (syntaxIn rs) (w .named))
+    (come-rows d apart rest rows below rs 1 (idEnd d rest) noMarks (length (rowsIn rs)) (come-first d apart rest) (marked-none (present s)) w)

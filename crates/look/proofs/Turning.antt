@@ -227,23 +227,26 @@ module _ (ids : List (List ℕ)) (rows : Guide) (limits : Limits rows) (orderly 
           let z : k ≡ c .row = omega (arith, ltb-false k (c .row) u, ltb-false (c .row) k v) in
           absurd (true≢false (sym (rw z at (next-found (isEntryRow id) [] rows 0 (ltb-true k (length rows) g))) ∙ other))
 
-  at-due : isEntryRow id (getD rows (c .row) []) ≡ false → Agrees (dueAt (nextDue rows (c .next) id))
-  unfolding nextDue turnOf
-  at-due other = go (isEntryRow id (getD rows m [])) refl
+  at-due : isEntryRow id (getD rows m []) ≡ true → Agrees (At m 1)
+  unfolding turnOf
+  at-due f =
+      let below : c .row < m = omega (arith, keeps .onward) in (
+        rw (stands-at m f, le-ltb m (c .row) (omega arith), lt-ltb (c .row) m below, bumped-row, none-missing f),
+        (and-left (isRow 1 (getD rows m [])) _ f, omega arith),
+      )
+
+  not-due : isEntryRow id (getD rows m []) ≡ false → Agrees (dueAt rows c id due.Nothing)
+  not-due f = go (isEntryRow id (getD rows (c .row) [])) refl
     where
-      go : (b : Bool) → isEntryRow id (getD rows m []) ≡ b → Agrees (dueAt (if b then due.Row m else due.Nothing))
-      go true f =
-          let below : c .row < m = omega (arith, keeps .onward) in (
-            rw (stands-at m f, le-ltb m (c .row) (omega arith), lt-ltb (c .row) m below, bumped-row, none-missing f),
-            (and-left (isRow 1 (getD rows m [])) _ f, omega arith),
-          )
-      go false f = (none-due other f, tt)
+      go : (b : Bool) → isEntryRow id (getD rows (c .row) []) ≡ b → Agrees (if b then againAt rows c else Odd)
+      go true e = at-present e
+      go false e = (none-due e f, tt)
 
   -- Where a segment with this id stands by a look is where the walk has it.
   pub turn-agrees : Agrees (turnOn rows c id)
-  unfolding turnOn
-  turn-agrees = go (isEntryRow id (getD rows (c .row) [])) refl
+  unfolding turnOn nextDue
+  turn-agrees = go (isEntryRow id (getD rows m [])) refl
     where
-      go : (b : Bool) → isEntryRow id (getD rows (c .row) []) ≡ b → Agrees (if b then againAt rows c else dueAt (nextDue rows (c .next) id))
-      go true e = at-present e
-      go false e = at-due e
+      go : (b : Bool) → isEntryRow id (getD rows m []) ≡ b → Agrees (dueAt rows c id (if b then due.Row m else due.Nothing))
+      go true f = at-due f
+      go false f = not-due f

@@ -1,6 +1,6 @@
 -- A look stays within the bytes: where a segment ends that is passed, and where the course goes on after it.
 use mathlib.Core.Path.{_≡_, refl, sym, _∙_}
-use mathlib.Core.Bool.{Bool, true, false, _&&_, not}
+use mathlib.Core.Bool.{Bool, true, false, _&&_}
 use mathlib.Core.List.{List, [], _∷_}
 use mathlib.Core.Option.{Option, none, some}
 use Prim.Native.Nat.{ℕ, zero, suc, _+_, _-_, _<_, _≤_}
@@ -10,17 +10,17 @@ use lib.Dec.{eqb, ltb}
 use lib.ListN.{length, take, drop, length-drop, length-take}
 use lib.Seq.{take-all, length-take-le}
 use Rattle.rules.specs.Base.{Bytes, ascii, same, if_then_else_}
-use Rattle.rules.specs.Cutting.{split}
 use Rattle.rules.specs.declared.Delimiters.{Delimiters}
 use Rattle.text.specs.Text.{nextWhere, part}
 use Rattle.text.proofs.Where.{next-within}
-use Rattle.tables.specs.Rows.{isRow, rowIs, codesIn, syntaxIn}
+use Rattle.tables.specs.Rows.{isRow, rowIs, noteIs, codesIn}
 use Rattle.tables.specs.Reading.{Guide, rowBelow}
 use Rattle.elements.specs.Values.{codeBy}
-use Rattle.elements.specs.Notes.{breaksBefore}
+use Rattle.elements.specs.Marks.{noMarks, marked, breaksNote}
+use Rattle.elements.specs.declared.Marks.{Marks}
 use Rattle.sets.specs.Places.{closedAt}
 use Rattle.look.specs.Bytes.{isOther}
-use Rattle.look.specs.Passing.{Stop, idEnd, isOver, begins, stops, readRows, passedBy, passed}
+use Rattle.look.specs.Passing.{idEnd, isOver, begins, stops, marksWith, readRows, passedBy, passed}
 use Rattle.look.specs.Looking.{turnOn, afterward, stepBy, stepOn, stepAt, lookBy, lookFrom, openedBy, looked}
 use Rattle.look.specs.declared.segment.Passed.{Passed}
 use Rattle.look.specs.declared.segment.Passed.the-variants.{Clean, Faulty}
@@ -39,44 +39,46 @@ module _ (table : List Bool) (d : Delimiters) (rest : Bytes) where
   stops-within end h = next-within (isOther table) rest (begins table d rest end) (begins-within (d .element) rest end h)
 
   -- what was read ends within the bytes
-  abbrev Ends : Option Stop → Type 0
+  abbrev Ends : Option ℕ → Type 0
   Ends none = Unit {0}
-  Ends (some s) = s .end ≤ length rest
+  Ends (some end) = end ≤ length rest
 
-  read-within : (rows : Guide) (n end : ℕ) → end ≤ length rest → Ends (readRows table d rest rows n end)
+  read-within : (rows : Guide) (end : ℕ) (m : Marks) → end ≤ length rest → Ends (readRows table d rest rows end m)
   unfolding readRows
-  read-within [] n end h = h
-  read-within (r ∷ rows) n end h =
+  read-within [] end m h = h
+  read-within (r ∷ rows) end m h =
       go (isRow 1 r) (isRow 2 r) (eqb (codeBy true (rowIs r (codesIn rows)) (part rest (begins table d rest end) (stops table d rest end))) 0)
-      (read-within rows (n + 1) (stops table d rest end) (stops-within end h)) (read-within rows n end h)
+      (isRow 4 r && breaksNote (marked m) (noteIs r))
+      (read-within rows (stops table d rest end) (marksWith table d rest m end) (stops-within end h)) (read-within rows end m h)
     where
-      next : Option Stop
-      next = readRows table d rest rows (n + 1) (stops table d rest end)
+      next : Option ℕ
+      next = readRows table d rest rows (stops table d rest end) (marksWith table d rest m end)
 
-      here : Option Stop
-      here = readRows table d rest rows n end
+      here : Option ℕ
+      here = readRows table d rest rows end m
 
-      go : (a b q : Bool) → Ends next → Ends here
-          → Ends (if a then some (record { place = n; end = end }) else (if b then (if q then next else none) else here))
-      go true b q x y = h
-      go false true true x y = x
-      go false true false x y = tt
-      go false false q x y = y
+      go : (a b q w : Bool) → Ends next → Ends here
+          → Ends (if a then some end else (if b then (if q then next else none) else (if w then none else here)))
+      go true b q w x y = h
+      go false true true w x y = x
+      go false true false w x y = tt
+      go false false q true x y = tt
+      go false false q false x y = y
 
   passed-within : (rows : Guide) (entry id : ℕ) {end next : ℕ} → id ≤ length rest → passed table d rest rows entry id ≡ Clean end next → end ≤ length rest
   unfolding passed
-  passed-within rows entry id {end} {next} h = by (readRows table d rest (drop below rows) 1 id) (read-within (drop below rows) 1 id h)
+  passed-within rows entry id {end} {next} h = by (readRows table d rest (drop below rows) id noMarks) (read-within (drop below rows) id noMarks h)
     where
       below : ℕ
       below = rowBelow rows entry
 
-      by : (o : Option Stop) → Ends o → passedBy table d rest rows below o ≡ Clean end next → end ≤ length rest
+      by : (o : Option ℕ) → Ends o → passedBy table d rest rows below o ≡ Clean end next → end ≤ length rest
       by none x q = let z : _≡_ {A = ℕ} 0 1 = cc in absurd (omega arith)
-      by (some s) x q = go (isOver (d .terminator) rest (s .end) && not (breaksBefore (s .place) (split (d .element) (take (s .end) rest)) (syntaxIn (drop below rows)))) q
+      by (some e) x q = go (isOver (d .terminator) rest e) q
         where
-          go : (b : Bool) → (if b then Clean (s .end) (nextWhere (isRow 1) rows below) else Faulty) ≡ Clean end next → end ≤ length rest
-          go true e = let z : s .end ≡ end = cc in omega arith
-          go false e = let z : _≡_ {A = ℕ} 0 1 = cc in absurd (omega arith)
+          go : (b : Bool) → (if b then Clean e (nextWhere (isRow 1) rows below) else Faulty) ≡ Clean end next → end ≤ length rest
+          go true f = let z : e ≡ end = cc in omega arith
+          go false f = let z : _≡_ {A = ℕ} 0 1 = cc in absurd (omega arith)
 
 -- 2. A course.
 module _ (table : List Bool) (d : Delimiters) (rows : Guide) (body : Bytes) where

@@ -26,14 +26,14 @@ use Rattle.look.specs.declared.Step.the-variants as step
 abbrev pub againAt : Guide → Course → Turn
 againAt rows c = if leb (column (getD rows (c .row) []) 5) (c .used) then turn.Odd else turn.At (c .row) (c .used + 1)
 
--- the first use of an entry that is due
-abbrev pub dueAt : Due → Turn
-dueAt (due.Row k) = turn.At k 1
-dueAt due.Nothing = turn.Odd
+-- the first use of an entry that is due; where none is, one more use of the present entry if that has the id
+abbrev pub dueAt : Guide → Course → Bytes → Due → Turn
+dueAt rows c id (due.Row k) = turn.At k 1
+dueAt rows c id due.Nothing = if isEntryRow id (getD rows (c .row) []) then againAt rows c else turn.Odd
 
 -- where a segment with this id stands
 unfoldable pub turnOn : Guide → Course → Bytes → Turn
-turnOn rows c id = if isEntryRow id (getD rows (c .row) []) then againAt rows c else dueAt (nextDue rows (c .next) id)
+turnOn rows c id = dueAt rows c id (nextDue rows (c .next) id)
 
 -- after the segment with this id: SE closes the set, ST opens another
 unfoldable pub afterward : Bytes → Course → Step

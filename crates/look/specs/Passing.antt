@@ -1,18 +1,18 @@
 -- One look at the segment that the bytes begin with: its fields are taken by the rows of its entry, as far as their bytes are valid by a table.
 use Prim.Native.Nat.{ℕ, _+_}
-use mathlib.Core.Bool.{Bool, true, _&&_, _||_, not}
+use mathlib.Core.Bool.{Bool, true, _&&_, _||_}
 use mathlib.Core.List.{List, [], _∷_}
 use mathlib.Core.Option.{Option, none, some}
 use lib.Dec.{eqb, ltb}
-use lib.ListN.{length, getD, take, drop}
+use lib.ListN.{length, getD, drop}
 use Rattle.rules.specs.Base.{Bytes, if_then_else_}
-use Rattle.rules.specs.Cutting.{split}
 use Rattle.rules.specs.declared.Delimiters.{Delimiters}
 use Rattle.text.specs.Text.{indexWhere, nextWhere, part}
-use Rattle.tables.specs.Rows.{isRow, rowIs, codesIn, syntaxIn}
+use Rattle.tables.specs.Rows.{isRow, rowIs, noteIs, codesIn}
 use Rattle.tables.specs.Reading.{Guide, rowBelow}
 use Rattle.elements.specs.Values.{codeBy}
-use Rattle.elements.specs.Notes.{breaksBefore}
+use Rattle.elements.specs.Marks.{noMarks, markedWith, marked, breaksNote}
+use Rattle.elements.specs.declared.Marks.{Marks}
 use Rattle.look.specs.Bytes.{isOther}
 use Rattle.look.specs.declared.segment.Passed.{Passed}
 use Rattle.look.specs.declared.segment.Passed.the-variants.{Clean, Faulty}
@@ -20,11 +20,6 @@ use Rattle.look.specs.declared.segment.Passed.the-variants.{Clean, Fault
 -- where the id ends: at a separator or a terminator, or with the bytes
 unfoldable pub idEnd : Delimiters → Bytes → ℕ
 idEnd d rest = indexWhere (λ b. eqb b (d .element) || eqb b (d .terminator)) rest
-
--- where a segment's fields were read to: the place of the next one, and where the last one ends
-pub record Stop : Type 0 where
-  pub place : ℕ
-  pub end : ℕ
 
 -- where the field starts that follows the one which ends at `end`: after its separator e; right there where none stands there
 unfoldable pub startAfter : ℕ → Bytes → ℕ → ℕ
@@ -42,23 +37,26 @@ module _ (table : List Bool) (d : Delimiters) (rest : Bytes) where
   abbrev pub stops : ℕ → ℕ
   stops end = nextWhere (isOther table) rest (begins end)
 
-  -- the fields of the rows up to the next segment are taken, from place n on, after the field that ends at `end`; none where one is not
-  unfoldable pub readRows : Guide → ℕ → ℕ → Option Stop
-  readRows [] n end = some (record { place = n; end = end })
-  readRows (r ∷ rs) n end =
-      let next = readRows rs (n + 1) (stops end) in
-      let here = readRows rs n end in
-      if isRow 1 r then some (record { place = n; end = end })
-      else (if isRow 2 r then (if eqb (codeBy true (rowIs r (codesIn rs)) (part rest (begins end) (stops end))) 0 then next else none)
-      else here)
+  -- the places that are present, with the next field
+  abbrev pub marksWith : Marks → ℕ → Marks
+  marksWith m end = markedWith m (ltb (begins end) (stops end))
 
-  -- the segment by the fields that were read: it ends there and breaks no note, or something is found
-  abbrev pub passedBy : Guide → ℕ → Option Stop → Passed
+  -- The rows up to the next segment, after the field that ends at `end`, by the places that are present so far: where the last field ends; none
+  -- where a field is not taken or a note is broken.
+  unfoldable pub readRows : Guide → ℕ → Marks → Option ℕ
+  readRows [] end m = some end
+  readRows (r ∷ rs) end m =
+      let next = readRows rs (stops end) (marksWith m end) in
+      let here = readRows rs end m in
+      if isRow 1 r then some end
+      else (if isRow 2 r then (if eqb (codeBy true (rowIs r (codesIn rs)) (part rest (begins end) (stops end))) 0 then next else none)
+      else (if isRow 4 r && breaksNote (marked m) (noteIs r) then none else here))
+
+  -- the segment by where its last field ends: it ends there too, or something is found
+  abbrev pub passedBy : Guide → ℕ → Option ℕ → Passed
   passedBy rows below none = Faulty
-  passedBy rows below (some s) =
-      if isOver (d .terminator) rest (s .end) && not (breaksBefore (s .place) (split (d .element) (take (s .end) rest)) (syntaxIn (drop below rows)))
-      then Clean (s .end) (nextWhere (isRow 1) rows below) else Faulty
+  passedBy rows below (some end) = if isOver (d .terminator) rest end then Clean end (nextWhere (isRow 1) rows below) else Faulty
 
   -- the segment whose id ends at `id`, by the entry of a row
   unfoldable pub passed : Guide → ℕ → ℕ → Passed
-  passed rows entry id = let below = rowBelow rows entry in passedBy rows below (readRows (drop below rows) 1 id)
+  passed rows entry id = let below = rowBelow rows entry in passedBy rows below (readRows (drop below rows) id noMarks)

@@ -63,16 +63,18 @@ fn again(guide: &[[u16; 6]], c: Course) -> Turn
     Turn::At(c.row, c.used + 1)
 }
 
-// Where a segment with this id stands.
+// Where a segment with this id stands. Most are due, so that is asked before whether one more use is made of the present entry.
 fn turn_on(id: &[u8], guide: &[[u16; 6]], c: Course) -> Turn
     ensures { λ r. ⌜ r ≡ turnOn (now (guide .entry)) c (now (id .entry)) ⌝ }
 {
-    if tables::is_entry(guide, c.row, id) {
-        return again(guide, c);
-    }
     match tables::next_due(guide, c.next, id) {
         Due::Row(k) => Turn::At(k, 1),
-        Due::Nothing => Turn::Odd,
+        Due::Nothing => {
+            if tables::is_entry(guide, c.row, id) {
+                return again(guide, c);
+            }
+            Turn::Odd
+        }
     }
 }
 

@@ -1,10 +1,15 @@
 // One look at a segment, at the start of the bytes that are left: its elements are taken by the rows of its entry, one after the other.
 ghost use mathlib.Core.Path.{_≡_};
+ghost use mathlib.Core.Bool.{true};
 ghost use Prim.Native.Nat.{_≤_};
+ghost use lib.Dec.{eqb};
 ghost use lib.ListN.{length};
-ghost use Rattle.text.specs.Text.{nextWhere};
+ghost use Rattle.text.specs.Text.{nextWhere, part};
+ghost use Rattle.tables.specs.Reading.{rowAt};
+ghost use Rattle.elements.specs.Values.{codeBy};
 ghost use Rattle.look.specs.Bytes.{isOther};
 ghost use Rattle.look.specs.Passing.{idEnd, startAfter, isOver, passed};
+use elements::Marks;
 use rules::Delimiters;
 
 // What a look at a segment comes to: it ends there, and this is the row of the entry after its own; or something is found.
@@ -62,6 +67,17 @@ fn is_over(rest: &[u8], t: u8, end: usize) -> bool
     true
 }
 
+// The bytes from `start` to `end` have no code by row k. Most rows ask only how many they are, so that is tried first.
+fn is_taken(rest: &[u8], start: usize, end: usize, guide: &[[u16; 6]], k: usize) -> bool
+    requires { ⌜ (start ≤ end) × (end ≤ length (now rest)) ⌝ }
+    ensures { λ r. ⌜ r ≡ eqb (codeBy true (rowAt (now (guide .entry)) k) (part (now (rest .entry)) start end)) 0 ⌝ }
+{
+    if start < end && elements::takes_length(end - start, guide, k) {
+        return true;
+    }
+    elements::takes(&rest[start..end], guide, k)
+}
+
 // The segment whose id ends at `id`, which lies within the bytes, by the entry of a row.
 pub(crate) fn pass(
     rest: &[u8],
@@ -74,33 +90,26 @@ pub(crate) fn pass(
     requires { ⌜ id ≤ length (now rest) ⌝ }
     ensures { λ r. ⌜ r ≡ passed (now (valid .entry)) d (now (rest .entry)) (now (guide .entry)) entry id ⌝ }
 {
-    let below = tables::below(guide, entry);
-    let mut k = below;
-    let mut n: usize = 1;
+    let mut k = tables::below(guide, entry);
     let mut end = id;
-    let mut noted = false;
+    let mut marks = Marks::none();
     while k < guide.len() {
         if tables::is_segment(guide, k) {
             break;
         }
-        noted = noted | tables::is_note(guide, k);
-        if !tables::is_element(guide, k) {
-            k += 1;
-            continue;
-        }
-        let start = start_after(rest, d.element, end);
-        end = find_invalid(rest, start, valid);
-        if !elements::takes(&rest[start..end], guide, k) {
+        if tables::is_element(guide, k) {
+            let start = start_after(rest, d.element, end);
+            end = find_invalid(rest, start, valid);
+            if !is_taken(rest, start, end, guide, k) {
+                return Passed::Faulty;
+            }
+            marks = marks.with(start < end);
+        } else if marks.breaks_note(guide, k) {
             return Passed::Faulty;
         }
-        n += 1;
         k += 1;
     }
     if !is_over(rest, d.terminator, end) {
-        return Passed::Faulty;
-    }
-    // Only where there is a note, since most entries have none.
-    if noted && elements::breaks_before(&rest[..end], d.element, guide, below, n) {
         return Passed::Faulty;
     }
     Passed::Clean(end, k)

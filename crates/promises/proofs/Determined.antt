@@ -87,7 +87,10 @@ use Rattle.elements.proofs.Found.is_some.Reads as elements-Found-is-some
 use Rattle.elements.proofs.next_found.Reads as elements-next-found
 use Rattle.elements.proofs.first_found.Reads as elements-first-found
 use Rattle.elements.proofs.takes.Reads as elements-takes
-use Rattle.elements.proofs.breaks_before.Reads as elements-breaks-before
+use Rattle.elements.proofs.takes_length.Reads as elements-takes-length
+use Rattle.elements.proofs.Marks.none.Reads as elements-Marks-none
+use Rattle.elements.proofs.Marks.with.Reads as elements-Marks-with
+use Rattle.elements.proofs.Marks.breaks_note.Reads as elements-Marks-breaks-note
 use Rattle.findings.proofs.start.Reads as findings-start
 use Rattle.findings.proofs.next.Reads as findings-next
 use Rattle.findings.proofs.next_missing.Reads as findings-next-missing
@@ -370,8 +373,17 @@ elements-first-found-once = ((λ κs a. tt), λ κs a r₁ r₂ s₁ s₂ p q. p
 elements-takes-once : Determined elements-takes.Pre elements-takes.Post (λ κs r s. r)
 elements-takes-once = ((λ κs a. tt), λ κs a r₁ r₂ s₁ s₂ p q. p ∙ sym q)
 
-elements-breaks-before-once : Determined elements-breaks-before.Pre elements-breaks-before.Post (λ κs r s. r)
-elements-breaks-before-once = ((λ κs a. tt), λ κs a r₁ r₂ s₁ s₂ p q. p ∙ sym q)
+elements-takes-length-once : Determined elements-takes-length.Pre elements-takes-length.Post (λ κs r s. r)
+elements-takes-length-once = ((λ κs a. tt), λ κs a r₁ r₂ s₁ s₂ p q. p ∙ sym q)
+
+elements-Marks-none-once : Determined elements-Marks-none.Pre elements-Marks-none.Post (λ κs r s. r)
+elements-Marks-none-once = ((λ κs a. tt), λ κs a r₁ r₂ s₁ s₂ p q. p ∙ sym q)
+
+elements-Marks-with-once : Determined elements-Marks-with.Pre elements-Marks-with.Post (λ κs r s. r)
+elements-Marks-with-once = ((λ κs a. tt), λ κs a r₁ r₂ s₁ s₂ p q. p ∙ sym q)
+
+elements-Marks-breaks-note-once : Determined elements-Marks-breaks-note.Pre elements-Marks-breaks-note.Post (λ κs r s. r)
+elements-Marks-breaks-note-once = ((λ κs a. tt), λ κs a r₁ r₂ s₁ s₂ p q. p ∙ sym q)
 
 -- findings
 findings-start-once : Determined findings-start.Pre findings-start.Post (λ κs r s. r)

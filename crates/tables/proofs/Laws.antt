@@ -3,7 +3,7 @@ use Prim.Native.Nat.{ℕ, zero, suc, _+_, _%_, _<_, _≤_, suc-le-suc}
 use mathlib.Core.Path.{_≡_, refl, sym, ap, _∙_}
 use mathlib.Core.Bool.{Bool, true, false, _||_, not}
 use mathlib.Core.List.{List, [], _∷_}
-use native.Mathlib.Nat.{mod-eq-of-lt}
+use native.Mathlib.Nat.{mod-eq-of-lt, le-of-suc-le-suc, not-suc-le-zero}
 use native.Mathlib.Numerals.{add-one}
 use native.Mathlib.Omega.{arith}
 use borrow.Author.Tests.{ne-eqb, eqb-true, ltb-true, ltb-false}
@@ -15,7 +15,7 @@ use Rattle.tables.specs.Rows.{column, isRow, filled, codesIn, rowsIn, sy
 use Rattle.rules.proofs.Logic.{and-left, and-right, all-at}
 use Rattle.text.proofs.Search.{find-le}
 use Rattle.tables.specs.declared.Places.{Places}
-use Rattle.tables.specs.Reading.{Guide, isByte, entryAt, rowAt, noteAt, codesAt, rowBelow, placesAt, idIn, idAt, idBytes, idsAreBytes}
+use Rattle.tables.specs.Reading.{Guide, isByte, entryAt, rowAt, noteAt, codesAt, rowBelow, placesAt, idIn, idAt, idBytes, idsAreBytes, followed}
 use Rattle.tables.proofs.Numbers.{filled-take}
 
 -- 1. What is left from row k on.
@@ -163,3 +163,17 @@ id-bytes rows k e h =
     let r = getD rows k [] in
     let b : all isByte (idIn r) ≡ true = rw h at (all-at _ rows [] k e (row-within 1 (lit< tt) rows k h)) in
     rw (low r 0 (lit< tt) b, low r 1 (lit< tt) b, low r 2 (lit< tt) b) (three (drop 1 r))
+
+-- what follows each row of a kind, from a row on and at one of them
+module _ (what : ℕ) (p : Guide → Bool) where
+  pub followed-from : (rows : Guide) (k : ℕ) → followed what p rows ≡ true → followed what p (drop k rows) ≡ true
+  unfolding followed
+  followed-from rows zero h = h
+  followed-from [] (suc k) h = refl
+  followed-from (r ∷ rows) (suc k) h = followed-from rows k (and-right (not (isRow what r) || p rows) (followed what p rows) h)
+
+  pub followed-at : (rows : Guide) (k : ℕ) → followed what p rows ≡ true → k < length rows → isRow what (getD rows k []) ≡ true → p (drop (suc k) rows) ≡ true
+  unfolding followed
+  followed-at [] k h l e = absurd (not-suc-le-zero l)
+  followed-at (r ∷ rows) zero h l e = rw e at (and-left (not (isRow what r) || p rows) (followed what p rows) h)
+  followed-at (r ∷ rows) (suc k) h l e = followed-at rows k (and-right (not (isRow what r) || p rows) (followed what p rows) h) (le-of-suc-le-suc l) e

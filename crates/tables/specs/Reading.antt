@@ -3,11 +3,11 @@ use Prim.Native.Nat.{ℕ, _+_, _%_, _≤_}
 use mathlib.Core.Path.{_≡_}
 use mathlib.Core.Bool.{Bool, true, _&&_, _||_, not}
 use mathlib.Core.List.{List, [], _∷_}
-use lib.Dec.{eqb, ltb}
+use lib.Dec.{eqb, ltb, leb}
 use lib.ListN.{length, getD, take, drop}
-use Rattle.rules.specs.Base.{Bytes, same, all, any, member, if_then_else_}
+use Rattle.rules.specs.Base.{Bytes, same, null, all, any, between, member, if_then_else_}
 use Rattle.rules.specs.Tables.{Row, Syntax, Entry}
-use Rattle.tables.specs.Rows.{column, isRow, filled, relationOf, codesIn, rowIs, entryIs, idsIn}
+use Rattle.tables.specs.Rows.{column, isRow, filled, codesIn, rowIs, noteIs, rowsIn, syntaxIn, entryIs, idsIn}
 use Rattle.text.specs.Text.{nextWhere, indexOf}
 use Rattle.tables.specs.declared.SegmentId.{SegmentId}
 use Rattle.tables.specs.declared.ElementRow.{ElementRow}
@@ -33,7 +33,7 @@ rowAt rows k = rowIs (getD rows k []) (codesIn (drop (k + 1) rows))
 
 -- the syntax note that row k is
 abbrev pub noteAt : Guide → ℕ → Syntax
-noteAt rows k = record { relation = relationOf (column (getD rows k []) 1); places = filled (take 4 (drop 2 (getD rows k []))) }
+noteAt rows k = noteIs (getD rows k [])
 
 -- the code values from row k on
 abbrev pub codesAt : Guide → ℕ → List Bytes
@@ -121,7 +121,32 @@ unfoldable pub idsDiffer : Guide → Bool
 idsDiffer [] = true
 idsDiffer (r ∷ rs) = (not (isRow 1 r) || not (any (isEntryRow (filled (idIn r))) rs)) && idsDiffer rs
 
--- What one look at a set may lean on: each segment's id stands in the directory, and no two segments have the same.
+-- the rows after each row of this kind pass
+unfoldable pub followed : ℕ → (Guide → Bool) → Guide → Bool
+followed what p [] = true
+followed what p (r ∷ rs) = (not (isRow what r) || p rs) && followed what p rs
+
+-- the elements up to the next segment are 62 at most
+abbrev pub hasFew : Guide → Bool
+hasFew rs = leb (length (rowsIn rs)) 62
+
+-- a note names only places of so many elements
+abbrev pub namesWithin : ℕ → Syntax → Bool
+namesWithin count c = all (between 1 count) (c .places)
+
+-- the notes up to the next segment name only places of its elements
+abbrev pub namesOwn : Guide → Bool
+namesOwn rs = all (namesWithin (length (rowsIn rs))) (syntaxIn rs)
+
+-- no element is left up to the next segment
+abbrev pub hasNone : Guide → Bool
+hasNone rs = null (rowsIn rs)
+
+-- What one look at a set may lean on: each segment's id stands in the directory, and no two segments have the same; a segment has at most 62
+-- elements; its notes name only places of these; and they stand after them.
 pub record Orderly (ids : List (List ℕ)) (rows : Guide) : Type 0 where
   pub known : all (hasKnownId ids) rows ≡ true
   pub differ : idsDiffer rows ≡ true
+  pub few : followed 1 hasFew rows ≡ true
+  pub named : followed 1 namesOwn rows ≡ true
+  pub last : followed 4 hasNone rows ≡ true

@@ -59,13 +59,16 @@ unfoldable pub rowsIn : List (List ℕ) → List Row
 rowsIn [] = []
 rowsIn (r ∷ rs) = let more = rowsIn rs in if isRow 1 r then [] else (if isRow 2 r then rowIs r (codesIn rs) ∷ more else more)
 
+-- a syntax note by its row
+abbrev pub noteIs : List ℕ → Syntax
+noteIs r = record { relation = relationOf (column r 1); places = filled (take 4 (drop 2 r)) }
+
 -- the syntax notes up to the next segment
 unfoldable pub syntaxIn : List (List ℕ) → List Syntax
 syntaxIn [] = []
 syntaxIn (r ∷ rs) =
     let more = syntaxIn rs in
-    if isRow 1 r then []
-    else (if isRow 4 r then record { relation = relationOf (column r 1); places = filled (take 4 (drop 2 r)) } ∷ more else more)
+    if isRow 1 r then [] else (if isRow 4 r then noteIs r ∷ more else more)
 
 -- a segment by its row and the rows after it
 abbrev pub entryIs : List ℕ → List (List ℕ) → Entry

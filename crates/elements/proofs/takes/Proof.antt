@@ -4,7 +4,7 @@ use mathlib.Core.Bool.{true}
 use Prim.Native.Nat.{ℕ}
 use lib.Dec.{eqb}
 use Rattle.tables.specs.Reading.{rowAt}
-use Rattle.elements.proofs.Codes.{code-empty, code-filled, takes-length}
+use Rattle.elements.proofs.Codes.{code-empty, code-filled}
 use borrow.Author.Needs.{needs}
 use Rattle.elements.proofs.takes.Statement.{statement}
 use Rattle.elements.proofs.takes.Tie as tie
@@ -16,23 +16,8 @@ returns c =
 
 returns-2 : tie.Need-returns-2
 returns-2 c =
-    let a = c .before .before .before .before .args in
-    let r = rowAt (a .guide .now) (a .k) in
-    let plain = takes-length r (a .e .now) (sym (c .before .takes-length .ensures) ∙ c .if2 .taken) in
-    c .if2 .taken ∙ sym (ap (λ (n : ℕ). eqb n 0) (code-filled r (a .e .now) true (c .before .before .if1 .left) ∙ plain))
-
-returns-3 : tie.Need-returns-3
-returns-3 c =
-    let a = c .before .before .before .before .before .args in
-    ap (λ (n : ℕ). eqb n 0) (c .value-code .ensures ∙ sym (code-filled (rowAt (a .guide .now) (a .k)) (a .e .now) true (c .before .before .before .if1 .left)))
+    let a = c .before .before .before .args in
+    ap (λ (n : ℕ). eqb n 0) (c .value-code .ensures ∙ sym (code-filled (rowAt (a .guide .now) (a .k)) (a .e .now) true (c .before .if1 .left)))
 
 pub takes-spec : {M : Type 1} → statement M
-takes-spec =
-    tie.close
-    (tie.spec
-    (λ c κs. search needs)
-    returns
-    (λ c κs. search needs)
-    (λ c κs. search needs)
-    returns-2
-    returns-3)
+takes-spec = tie.close (tie.spec (λ c κs. search needs) returns (λ c κs. search needs) returns-2)
