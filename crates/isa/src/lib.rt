@@ -94,6 +94,18 @@ fn delimiters(i: &[u8]) -> Delimiters
     )
 }
 
+// Field n of ISA, where the separators stand at these places; of a short interchange what there is of it.
+fn field_at<'a>(i: &'a [u8], separators: &[usize; FIELDS], n: usize) -> &'a [u8]
+    requires { ⌜ (now separators ≡ cutting.separators) × (n < 16) ⌝ }
+    ensures { λ r. ⌜ now r ≡ field (isa (now (i .entry))) n ⌝ }
+{
+    let end = separators[n];
+    if n == 0 {
+        return text::part(i, 0, end);
+    }
+    text::part(i, separators[n - 1] + 1, end)
+}
+
 // Field n of ISA by its fixed places, up to ISA15; of a short interchange what there is of it.
 pub fn isa_field(i: &[u8], n: usize) -> &[u8]
     ensures { λ r. ⌜ now r ≡ field (isa (now (i .entry))) n ⌝ }
@@ -101,11 +113,8 @@ pub fn isa_field(i: &[u8], n: usize) -> &[u8]
     if FIELDS <= n {
         return &i[0..0];
     }
-    let end = separator(n);
-    if n == 0 {
-        return text::part(i, 0, end);
-    }
-    text::part(i, separator(n - 1) + 1, end)
+    let separators = SEPARATORS;
+    field_at(i, &separators, n)
 }
 
 // ISA, and a separator at each of its places.
@@ -115,9 +124,11 @@ fn has_isa(i: &[u8]) -> bool
     if !same_bytes(text::part(i, 0, 3), &rules::ISA) {
         return false;
     }
+    // The array is laid out anew wherever it is named, so it is named once.
+    let separators = SEPARATORS;
     let mut k = 0;
     while k < FIELDS {
-        if byte_at(i, separator(k)) != byte_at(i, ELEMENT) {
+        if byte_at(i, separators[k]) != byte_at(i, ELEMENT) {
             return false;
         }
         k += 1;
@@ -183,9 +194,10 @@ fn is_good_isa(i: &[u8], d: Delimiters) -> bool
 fn are_valid_fields(i: &[u8], d: Delimiters) -> bool
     ensures { λ r. ⌜ r ≡ all (all (valid d)) (isa (now (i .entry))) ⌝ }
 {
+    let separators = SEPARATORS;
     let mut n = 0;
     while n < FIELDS {
-        if !all_valid(isa_field(i, n), d) {
+        if !all_valid(field_at(i, &separators, n), d) {
             return false;
         }
         n += 1;
@@ -204,13 +216,6 @@ fn is_usage(s: &[u8]) -> bool
         return true;
     }
     same_bytes(s, b"I")
-}
-
-fn separator(k: usize) -> usize
-    requires { ⌜ k < 16 ⌝ }
-    ensures { λ r. ⌜ r ≡ getD separators k 0 ⌝ }
-{
-    SEPARATORS[k]
 }
 
 // The byte at a place, 0 past the end.

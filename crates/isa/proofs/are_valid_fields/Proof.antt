@@ -1,27 +1,35 @@
 -- `isa::are_valid_fields` meets its contract.
 use Prim.Native.Nat.{_-_}
-use mathlib.Core.Path.{_≡_, sym, _∙_}
+use mathlib.Core.Path.{_≡_, refl, sym, _∙_}
 use mathlib.Core.List.{[]}
 use borrow.Author.Tests.{not-true, not-false}
 use lib.ListN.{drop}
 use Rattle.rules.specs.Base.{all}
-use Rattle.rules.specs.Cutting.{valid, isa}
+use Rattle.rules.specs.Cutting.{valid, isa, separators}
 use Rattle.isa.proofs.Places.{isa-length, test-step, test-end}
 use borrow.Author.Needs.{needs}
 use Rattle.isa.proofs.are_valid_fields.Statement.{statement}
 use Rattle.isa.proofs.are_valid_fields.Tie as tie
 
 abbrev Inv-loop : tie.InvT-loop
-Inv-loop i d n₀ n = all (all (valid d)) (isa i) ≡ all (all (valid d)) (drop n (isa i))
+Inv-loop i d places n₀ n = all (all (valid d)) (isa i) ≡ all (all (valid d)) (drop n (isa i))
 
 abbrev μ-loop : tie.MeasureT-loop
-μ-loop i d n₀ n = 16 - n
+μ-loop i d places n₀ n = 16 - n
+
+field-at-requires : tie.Need-field-at-requires Inv-loop μ-loop
+unfolding separators
+field-at-requires c κs = (refl, c .before .loop-test .taken)
 
 returns : tie.Need-returns Inv-loop μ-loop
-returns c = sym (c .before .before .before .before .loop .inv ∙ test-step _ _ (isa-length _) _ [] _ _ (c .before .before .before .loop-test .taken) (c .before .before .isa-field .ensures) (sym (c .before .all-valid .ensures) ∙ not-true _ (c .if1 .taken)))
+returns c =
+    let head = c .before .before .before .before .before in
+    sym (head .loop .inv ∙ test-step _ _ (isa-length _) _ [] _ _ (c .before .before .before .before .loop-test .taken) (c .before .before .field-at .ensures) (sym (c .before .all-valid .ensures) ∙ not-true _ (c .if1 .taken)))
 
 loop-again : tie.Need-loop-again Inv-loop μ-loop
-loop-again c = c .before .before .before .before .loop .inv ∙ test-step _ _ (isa-length _) _ [] _ _ (c .before .before .before .loop-test .taken) (c .before .before .isa-field .ensures) (sym (c .before .all-valid .ensures) ∙ not-false _ (c .if1 .left))
+loop-again c =
+    let head = c .before .before .before .before .before in
+    head .loop .inv ∙ test-step _ _ (isa-length _) _ [] _ _ (c .before .before .before .before .loop-test .taken) (c .before .before .field-at .ensures) (sym (c .before .all-valid .ensures) ∙ not-false _ (c .if1 .left))
 
 returns-2 : tie.Need-returns-2 Inv-loop μ-loop
 returns-2 c = sym (c .before .loop .inv ∙ test-end _ _ (isa-length _) _ (c .loop-test .left))
@@ -33,7 +41,7 @@ are-valid-fields-spec =
     Inv-loop
     μ-loop
     (λ c. search needs)
-    (λ c κs. search needs)
+    field-at-requires
     (λ c κs. search needs)
     returns
     (λ c. search needs)

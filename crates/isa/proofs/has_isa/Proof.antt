@@ -1,6 +1,6 @@
 -- `isa::has_isa` meets its contract.
 use Prim.Native.Nat.{ℕ, _-_}
-use mathlib.Core.Path.{_≡_, sym, _∙_}
+use mathlib.Core.Path.{_≡_, refl, sym, _∙_}
 use mathlib.Core.Bool.{Bool, true, false}
 use borrow.Author.Tests.{not-true, not-false, eq-eqb, ne-eqb}
 use lib.Dec.{eqb}
@@ -17,10 +17,10 @@ abbrev separated : Bytes → ℕ → Bool
 separated i at = eqb (getD i at 0) (getD i 3 0)
 
 abbrev Inv-loop : tie.InvT-loop
-Inv-loop i k₀ k = hasISA i ≡ all (separated i) (drop k separators)
+Inv-loop i places k₀ k = hasISA i ≡ all (separated i) (drop k separators)
 
 abbrev μ-loop : tie.MeasureT-loop
-μ-loop i k₀ k = 16 - k
+μ-loop i places k₀ k = 16 - k
 
 returns : tie.Need-returns Inv-loop μ-loop
 unfolding hasISA
@@ -31,14 +31,16 @@ unfolding hasISA
 loop-holds c = rw (← c .before .before .before .part .ensures, sym (c .before .same-bytes .ensures) ∙ not-false _ (c .if1 .left))
 
 returns-2 : tie.Need-returns-2 Inv-loop μ-loop
+unfolding separators
 returns-2 c =
-    let head = c .before .before .before .before .before in
-    sym (head .loop .inv ∙ test-step (separated (head .before .before .before .before .before .before .args .i .now)) _ sixteen _ 0 (c .before .before .before .separator .result) false (c .before .before .before .before .loop-test .taken) (c .before .before .before .separator .ensures) (rw (← c .before .before .byte-at .ensures, ← c .before .byte-at2 .ensures) (ne-eqb _ _ (c .if2 .taken))))
+    let head = c .before .before .before .before in
+    sym (head .loop .inv ∙ test-step (separated (head .before .before .before .before .before .before .args .i .now)) _ sixteen _ 0 _ false (c .before .before .before .loop-test .taken) refl (rw (← c .before .before .byte-at .ensures, ← c .before .byte-at2 .ensures) (ne-eqb _ _ (c .if2 .taken))))
 
 loop-again : tie.Need-loop-again Inv-loop μ-loop
+unfolding separators
 loop-again c =
-    let head = c .before .before .before .before .before in
-    head .loop .inv ∙ test-step (separated (head .before .before .before .before .before .before .args .i .now)) _ sixteen _ 0 (c .before .before .before .separator .result) true (c .before .before .before .before .loop-test .taken) (c .before .before .before .separator .ensures) (rw (← c .before .before .byte-at .ensures, ← c .before .byte-at2 .ensures) (eq-eqb _ _ (c .if2 .left)))
+    let head = c .before .before .before .before in
+    head .loop .inv ∙ test-step (separated (head .before .before .before .before .before .before .args .i .now)) _ sixteen _ 0 _ true (c .before .before .before .loop-test .taken) refl (rw (← c .before .before .byte-at .ensures, ← c .before .byte-at2 .ensures) (eq-eqb _ _ (c .if2 .left)))
 
 returns-3 : tie.Need-returns-3 Inv-loop μ-loop
 returns-3 c = sym (c .before .loop .inv ∙ test-end _ _ sixteen _ (c .loop-test .left))
@@ -54,7 +56,8 @@ has-isa-spec =
     (λ c κs. search needs)
     returns
     loop-holds
-    (λ c κs. search needs)
+    (λ c. search needs)
+    (λ c. search needs)
     (λ c κs. search needs)
     (λ c κs. search needs)
     returns-2
