@@ -104,7 +104,7 @@ seeing-start {d} table {body} {starts = starts} {links = links} o c = record {
 }
 
 -- arrays of zeros have room for the sets of a body that is not too long for them
-pub cleared : {d : Delimiters} {body : Bytes} (n : ℕ) → good d (setsOf (segments d body)) ≡ true → length body < 12 * n
+pub cleared : {d : Delimiters} {body : Bytes} (n : ℕ) → good d (setsOf (segments d body)) ≡ true → length body < 12 * n + 11
     → Cleared d body (replicate n 0) (replicate n 0) (replicate (1024 + 4 * n) 0)
 cleared {d} {body} n g h =
     let few = sets-number d body g in

@@ -17,8 +17,8 @@ use register::Found;
 use rules::Delimiters;
 use verdicts::Tally;
 
-// More sets than the longest interchange has: each takes twelve bytes at least.
-pub const MOST_SETS: usize = rules::Interchange::LONGEST / 12 + 1;
+// As many sets as the longest interchange can have: each takes twelve bytes at least.
+pub const MOST_SETS: usize = rules::Interchange::LONGEST / 12;
 
 // The links of the buckets, and four for each set.
 pub const MOST_LINKS: usize = register::BUCKETS + 4 * MOST_SETS;
@@ -26,7 +26,7 @@ pub const MOST_LINKS: usize = register::BUCKETS + 4 * MOST_SETS;
 // A group of so many bytes at most has few sets, and less is cleared for them.
 pub const SHORT: usize = 4096;
 
-pub const FEW_SETS: usize = SHORT / 12 + 1;
+pub const FEW_SETS: usize = SHORT / 12;
 
 pub const FEW_LINKS: usize = register::BUCKETS + 4 * FEW_SETS;
 

@@ -9,7 +9,7 @@ use Rattle.acknowledgment.proofs.response.respond_long.Tie as tie
 respond-over-requires : tie.Need-respond-over-requires
 respond-over-requires c κs =
     let entry = c .before .before .before .before .before .before in
-    (entry .pre, cleared 5462 (entry .pre .passed .headers) (simp (length-take, length-drop) (omega (arith, entry .pre .short))))
+    (entry .pre, cleared 5461 (entry .pre .passed .headers) (simp (length-take, length-drop) (omega (arith, entry .pre .short))))
 
 pub respond-long-spec : {M : Type 1} → statement M
 respond-long-spec =

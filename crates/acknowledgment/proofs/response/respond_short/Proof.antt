@@ -8,7 +8,7 @@ use Rattle.acknowledgment.proofs.response.respond_short.Tie as tie
 respond-over-requires : tie.Need-respond-over-requires
 respond-over-requires c κs =
     let entry = c .before .before .before .before .before .before in
-    (entry .pre .0, cleared 342 (entry .pre .0 .passed .headers) (omega (arith, entry .pre .1)))
+    (entry .pre .0, cleared 341 (entry .pre .0 .passed .headers) (omega (arith, entry .pre .1)))
 
 pub respond-short-spec : {M : Type 1} → statement M
 respond-short-spec =
