@@ -445,7 +445,7 @@ fn field_after(s: &[u8], e: u8, end: usize) -> Field
     }
 }
 
-// Which places of a segment are present: a bit for each up to place 63, and the bit of the next place.
+// Which places of a segment are present: a bit for each up to place 63, and the bit of the next place, which is 0 past them.
 pub struct Marks {
     pub bits: usize,
     pub next: usize,
@@ -474,7 +474,7 @@ impl Marks {
         }
     }
 
-    // Place n is present.
+    // Place n is present. The places that notes name are below 64, so the remainder only keeps the shift in range.
     fn has(self, n: usize) -> bool
         ensures { λ r. ⌜ r ≡ marked self n ⌝ }
     {
