@@ -3,8 +3,9 @@ ghost use mathlib.Core.Path.{_≡_};
 ghost use Prim.Native.Nat.{_≤_};
 ghost use Rattle.rules.specs.Numbers.{leap, monthLength, isDay, isDate};
 
-// The days of the months of a common year.
-const MONTH_LENGTHS: [u8; 12] = [31, 28, 31, 30, 31, 30, 31, 31, 30, 31, 30, 31];
+const FEBRUARY: usize = 2;
+
+const AUGUST: usize = 8;
 
 // A year with a 29 February.
 fn is_leap(year: u32) -> bool
@@ -13,15 +14,16 @@ fn is_leap(year: u32) -> bool
     year % 4 == 0 && (year % 100 != 0 || year % 400 == 0)
 }
 
-// The days of one of the months 1 to 12.
+// The days of one of the months 1 to 12. Up to July the odd months are long, from August on the even ones.
 fn month_length(year: u32, month: usize) -> u8
     requires { ⌜ (1 ≤ month) × (month ≤ 12) ⌝ }
     ensures { λ r. ⌜ r ≡ monthLength year month ⌝ }
 {
-    if month == 2 && is_leap(year) {
-        return 29;
+    if month == FEBRUARY {
+        return 28 + is_leap(year) as u8;
     }
-    MONTH_LENGTHS[month - 1]
+    let is_long = (month % 2 == 1) == (month < AUGUST);
+    30 + is_long as u8
 }
 
 // The number CCYYMMDD is a day.
