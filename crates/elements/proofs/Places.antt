@@ -15,13 +15,13 @@ use Rattle.rules.specs.Elements.{isDT, isTM, spelled, valueLength, elementCode,
 use Rattle.rules.specs.Numbers.{isDate, isTime}
 use Rattle.rules.specs.Tables.{Row, Syntax}
 use Rattle.rules.specs.declared.Delimiters.{Delimiters}
+use Rattle.rules.specs.declared.Span.{Span}
 use Rattle.text.specs.Text.{indexWhere, part}
 use Rattle.text.proofs.Search.{find-le}
 use Rattle.segments.proofs.Fields.{FieldAt, field-at, field-next, field-past, field-stay, present-length}
 use Rattle.elements.specs.Notes.{noteCodeBy}
 use Rattle.elements.specs.Checks.{nextStart, fieldAfter}
 use Rattle.elements.specs.Values.{unlisted}
-use Rattle.elements.specs.declared.Field.{Field}
 use Rattle.elements.proofs.Notes.{lacks-present, shuts-absent}
 
 -- 1. The next field.
@@ -34,7 +34,7 @@ start-within s end = go (ltb end (length s)) refl
     go true h = omega (arith, ltb-true end (length s) h)
     go false h = omega arith
 
-module _ (e : ℕ) (s : Bytes) (end : ℕ) {f : Field} (q : f ≡ fieldAfter e s end) where
+module _ (e : ℕ) (s : Bytes) (end : ℕ) {f : Span} (q : f ≡ fieldAfter e s end) where
   pub after-order : f .start ≤ f .end
   unfolding fieldAfter
   after-order = rw q (omega arith)
@@ -45,7 +45,7 @@ module _ (e : ℕ) (s : Bytes) (end : ℕ) {f : Field} (q : f ≡ fieldAfter e s
 
 -- field n, which follows the one that ends at `end`
 module _ {e : ℕ} {s : Bytes} {n end : ℕ} (at : FieldAt e s n (end + 1)) (within : end ≤ length s) where
-  abbrev f : Field
+  abbrev f : Span
   f = fieldAfter e s end
 
   more : end < length s → nextStart s end ≡ end + 1

@@ -9,12 +9,12 @@ use Rattle.rules.specs.Cutting.{split}
 use Rattle.rules.specs.Elements.{elementCode}
 use Rattle.rules.specs.declared.Delimiters.{Delimiters}
 use Rattle.rules.specs.declared.Finding.{Finding}
+use Rattle.rules.specs.declared.Span.{Span}
 use Rattle.tables.specs.Rows.{isRow, syntaxIn}
 use Rattle.tables.specs.Reading.{Guide, rowAt, rowBelow}
 use Rattle.text.specs.Text.{indexOf, nextWhere, part}
 use Rattle.elements.specs.Notes.{noteCodeBy}
 use Rattle.elements.specs.declared.Cursor.{Cursor}
-use Rattle.elements.specs.declared.Field.{Field}
 use Rattle.elements.specs.declared.Found.{Found}
 use Rattle.elements.specs.declared.Found.the-variants.{Codes, Nothing}
 use Rattle.elements.specs.declared.PlaceCodes.{PlaceCodes}
@@ -43,7 +43,7 @@ unfoldable pub nextStart : Bytes → ℕ → ℕ
 nextStart s end = if ltb end (length s) then end + 1 else length s
 
 -- the field that follows the one which ends at `end`
-unfoldable pub fieldAfter : ℕ → Bytes → ℕ → Field
+unfoldable pub fieldAfter : ℕ → Bytes → ℕ → Span
 fieldAfter e s end = let start = nextStart s end in record { start = start; end = start + indexOf e (drop start s) }
 
 -- there is a code

@@ -16,19 +16,29 @@ ghost use Rattle.elements.specs.Notes.{isE, breaks, noteCodeBy};
 ghost use Rattle.elements.specs.Marks.{noMarks, markedWith, marked, two, brokenBy, breaksNote};
 ghost use Rattle.elements.specs.Checks.{isSome, placeAfter, noteRow, nextStart, fieldAfter, codesAt, surplus, nextFound, start};
 use rules::Delimiters;
+use rules::ElementCode;
 use rules::Kind;
 use rules::Relation;
+use rules::Span;
 
 fn date_code(e: &[u8]) -> u8
     ensures { λ r. ⌜ r ≡ first ((not (isDate (now (e .entry))) ⇒ 8) ∷ []) ⌝ }
 {
-    if dates::is_date(e) { 0 } else { 8 }
+    if dates::is_date(e) {
+        0
+    } else {
+        ElementCode::NO_DATE
+    }
 }
 
 fn time_code(e: &[u8]) -> u8
     ensures { λ r. ⌜ r ≡ first ((not (isTime (now (e .entry))) ⇒ 9) ∷ []) ⌝ }
 {
-    if text::is_time(e) { 0 } else { 9 }
+    if text::is_time(e) {
+        0
+    } else {
+        ElementCode::NO_TIME
+    }
 }
 
 // Outside the code values of row k, where it has any.
@@ -45,7 +55,11 @@ fn empty_code(guide: &[[u16; 6]], k: usize) -> u8
     ensures { λ r. ⌜ r ≡ first ((rowAt (now (guide .entry)) k .mandatory ⇒ 1) ∷ []) ⌝ }
 {
     let row = tables::element_at(guide, k);
-    if row.mandatory { 1 } else { 0 }
+    if row.mandatory {
+        ElementCode::MISSING
+    } else {
+        0
+    }
 }
 
 fn is_number(kind: Kind) -> bool
@@ -100,17 +114,17 @@ fn value_code(e: &[u8], guide: &[[u16; 6]], k: usize) -> u8
     let row = tables::element_at(guide, k);
     let kind = row.kind;
     if !is_spelled(e, kind) {
-        return 6;
+        return ElementCode::BAD_BYTE;
     }
     let length = value_length(e, kind);
     if length < row.shortest {
-        return 4;
+        return ElementCode::TOO_SHORT;
     }
     if row.longest < length {
-        return 5;
+        return ElementCode::TOO_LONG;
     }
     if is_unlisted(e, guide, k) {
-        return 7;
+        return ElementCode::NOT_LISTED;
     }
     rule_code(e, kind)
 }
@@ -123,7 +137,7 @@ fn element_code(e: &[u8], d: Delimiters, guide: &[[u16; 6]], k: usize) -> u8
         return empty_code(guide, k);
     }
     if !text::all_valid(e, d) {
-        return 6;
+        return ElementCode::BAD_BYTE;
     }
     value_code(e, guide, k)
 }
@@ -354,7 +368,11 @@ fn note_code(s: &[u8], e: u8, guide: &[[u16; 6]], from: usize, n: usize, present
     if !breaks_notes(s, e, guide, from, n, present) {
         return 0;
     }
-    if present { 10 } else { 2 }
+    if present {
+        ElementCode::SHUT_OUT
+    } else {
+        ElementCode::MISSING_BY_NOTE
+    }
 }
 
 // Where the check of a segment has come to: the next row, the place of the next element, and where the field before it ends. The notes of its
@@ -428,18 +446,12 @@ fn next_start(s: &[u8], end: usize) -> usize
     s.len()
 }
 
-// A field: from where to where it lies.
-struct Field {
-    start: usize,
-    end: usize,
-}
-
 // The field that follows the one which ends at `end`.
-fn field_after(s: &[u8], e: u8, end: usize) -> Field
+fn field_after(s: &[u8], e: u8, end: usize) -> Span
     ensures { λ r. ⌜ r ≡ fieldAfter e (now (s .entry)) end ⌝ }
 {
     let start = next_start(s, end);
-    Field {
+    Span {
         start,
         end: text::find_near(s, start, e),
     }
@@ -563,7 +575,7 @@ impl Marks {
 }
 
 // The codes of the next place by the element of the next row, in the next field.
-fn codes_of(s: &[u8], d: Delimiters, guide: &[[u16; 6]], c: Cursor, field: Field) -> PlaceCodes
+fn codes_at(s: &[u8], d: Delimiters, guide: &[[u16; 6]], c: Cursor, field: Span) -> PlaceCodes
     requires { ⌜ field ≡ fieldAfter (d .element) (now s) (c .end) ⌝ }
     ensures { λ r. ⌜ r ≡ codesAt d (now (s .entry)) (now (guide .entry)) c ⌝ }
 {
@@ -601,7 +613,7 @@ fn surplus(s: &[u8], c: Cursor) -> Found
         let codes = PlaceCodes {
             place: c.place,
             reference: 0,
-            own: 3,
+            own: ElementCode::BEYOND_TABLE,
             noted: 0,
         };
         let over = Cursor {
@@ -626,7 +638,7 @@ pub fn next_found(s: &[u8], d: Delimiters, guide: &[[u16; 6]], cursor: Cursor) -
             continue;
         }
         let field = field_after(s, d.element, c.end);
-        let codes = codes_of(s, d, guide, c, field);
+        let codes = codes_at(s, d, guide, c, field);
         c = next_row(c, place_after(c.place), field.end);
         if (codes.own != 0) | (codes.noted != 0) {
             return Found::Codes(codes, c);

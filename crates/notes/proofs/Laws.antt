@@ -39,7 +39,7 @@ use Rattle.findings.specs.declared.Missing.the-variants as miss
 use Rattle.findings.specs.declared.Taken.{Taken}
 use Rattle.findings.proofs.Search.{missedBy, miss-law}
 use Rattle.findings.proofs.Told.{elements-written}
-use Rattle.notes.specs.Lines.{echo, findingOf, foundBy}
+use Rattle.notes.specs.Lines.{echoedId, findingOf, foundBy}
 
 -- 1. An id by value.
 plain-some : (b : ℕ) → isUpperOrDigit b ≡ true → eqb b 0 ≡ false
@@ -52,9 +52,9 @@ filled-plain [] more h = refl
 filled-plain (x ∷ id) more h =
     rw (plain-some x (all-head isUpperOrDigit x id h), filled-plain id more (all-tail isUpperOrDigit x id h))
 
-pub echo-law : (id : Bytes) → idBytes (echo id) ≡ echoed id
+pub echoed-id-law : (id : Bytes) → idBytes (echoedId id) ≡ echoed id
 unfolding idBytes echoed filled
-echo-law id = go (between 2 3 (length id) && all isUpperOrDigit id) refl
+echoed-id-law id = go (between 2 3 (length id) && all isUpperOrDigit id) refl
   where
     kept : (id : Bytes) → between 2 3 (length id) ≡ true → all isUpperOrDigit id ≡ true → filled (getD id 0 0 ∷ getD id 1 0 ∷ getD id 2 0 ∷ []) ≡ id
     kept [] h k = absurd (true≢false (sym h))

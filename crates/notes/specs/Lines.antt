@@ -16,8 +16,8 @@ use Rattle.findings.specs.Steps.{isChecked}
 use Rattle.notes.specs.declared.Line.{Line}
 
 -- the id that is echoed
-abbrev pub echo : Bytes → SegmentId
-echo id =
+abbrev pub echoedId : Bytes → SegmentId
+echoedId id =
     if between 2 3 (length id) && all isUpperOrDigit id then record { first = getD id 0 0; second = getD id 1 0; third = getD id 2 0 }
     else record { first = 90; second = 90; third = 90 }
 

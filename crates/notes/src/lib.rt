@@ -14,7 +14,7 @@ ghost use Rattle.elements.specs.Checks.{findingsAt, findingsFrom};
 ghost use Rattle.findings.specs.Events as events;
 ghost use Rattle.findings.specs.Remaining as rest;
 ghost use Rattle.findings.specs.Steps.{codesOf, isChecked, start};
-ghost use Rattle.notes.specs.Lines.{echo, absent, findingOf, foundBy};
+ghost use Rattle.notes.specs.Lines.{echoedId, absent, findingOf, foundBy};
 ghost use Rattle.notes.specs.Saying.{Adds, Tells};
 ghost use Rattle.writing.specs.Over.{sat, From};
 use elements::Found;
@@ -59,8 +59,8 @@ fn is_id(s: &[u8]) -> bool
 }
 
 // The id that is echoed, `ZZZ` for what is none.
-fn echo(id: &[u8]) -> SegmentId
-    ensures { λ r. ⌜ r ≡ echo (now (id .entry)) ⌝ }
+fn echoed_id(id: &[u8]) -> SegmentId
+    ensures { λ r. ⌜ r ≡ echoedId (now (id .entry)) ⌝ }
 {
     if is_id(id) {
         return SegmentId {
@@ -201,7 +201,7 @@ fn add_segment_line(
         return told;
     }
     let line = Line {
-        id: echo(segments::id(s, d.element)),
+        id: echoed_id(segments::id(s, d.element)),
         position: taken.passed.position,
         own: taken.own,
         faulty,

@@ -94,6 +94,12 @@ pub enum Relation {
     L,
 }
 
+// A part of a segment: where it starts, and where it ends, which is after its last byte.
+pub struct Span {
+    pub start: usize,
+    pub end: usize,
+}
+
 // What is found of one element, an AK4: its place, its reference number (0 for none) and the code.
 pub struct Finding {
     pub place: usize,
@@ -111,6 +117,33 @@ impl Finding {
             code,
         }
     }
+}
+
+// A code of AK4: what is wrong with an element.
+pub struct ElementCode {
+    pub number: u8,
+}
+
+impl ElementCode {
+    pub const MISSING: u8 = 1;
+
+    pub const MISSING_BY_NOTE: u8 = 2;
+
+    pub const BEYOND_TABLE: u8 = 3;
+
+    pub const TOO_SHORT: u8 = 4;
+
+    pub const TOO_LONG: u8 = 5;
+
+    pub const BAD_BYTE: u8 = 6;
+
+    pub const NOT_LISTED: u8 = 7;
+
+    pub const NO_DATE: u8 = 8;
+
+    pub const NO_TIME: u8 = 9;
+
+    pub const SHUT_OUT: u8 = 10;
 }
 
 // A code of AK3: what is wrong with a segment.

@@ -29,17 +29,17 @@ loop-again c =
     ∙ found-over (a .d) (a .s .now) (a .guide .now) (row .before .before .before .before .loop .c) (row .before .before .if1 .taken) (sym (row .before .is-segment .ensures) ∙ not-true _ (row .if2 .taken)) (sym (c .before .before .is-element .ensures) ∙ not-true _ (c .before .if3 .taken))
     ∙ rw (c .next-row .ensures)
 
-codes-of-requires : tie.Need-codes-of-requires Inv-loop μ-loop
-codes-of-requires c κs = c .field-after .ensures
+codes-at-requires : tie.Need-codes-at-requires Inv-loop μ-loop
+codes-at-requires c κs = c .field-after .ensures
 
 returns : tie.Need-returns Inv-loop μ-loop
 returns c =
     let coded = c .before .before .before .before .before in
     let row = coded .before .before .before .before in
     let a = row .before .before .before .before .before .before .args in
-    rw (coded .codes-of .ensures, c .before .before .before .next-row2 .ensures, c .before .before .before .before .place-after .ensures, coded .before .field-after .ensures)
+    rw (coded .codes-at .ensures, c .before .before .before .next-row2 .ensures, c .before .before .before .before .place-after .ensures, coded .before .field-after .ensures)
     (sym (row .before .before .before .before .loop .inv
-    ∙ found-here (a .d) (a .s .now) (a .guide .now) (row .before .before .before .before .loop .c) (row .before .before .if1 .taken) (sym (row .before .is-segment .ensures) ∙ not-true _ (row .if2 .taken)) (sym (coded .before .before .before .is-element .ensures) ∙ not-false _ (coded .before .before .if3 .left)) (rw (coded .codes-of .ensures) at (c .if4 .taken))))
+    ∙ found-here (a .d) (a .s .now) (a .guide .now) (row .before .before .before .before .loop .c) (row .before .before .if1 .taken) (sym (row .before .is-segment .ensures) ∙ not-true _ (row .if2 .taken)) (sym (coded .before .before .before .is-element .ensures) ∙ not-false _ (coded .before .before .if3 .left)) (rw (coded .codes-at .ensures) at (c .if4 .taken))))
 
 loop-less-2 : tie.Need-loop-less-2 Inv-loop μ-loop
 loop-less-2 c = omega (arith, ap (λ (v : Cursor). v .row) (c .before .before .before .next-row2 .ensures))
@@ -51,7 +51,7 @@ loop-again-2 c =
     let a = row .before .before .before .before .before .before .args in
     rw (c .before .before .before .next-row2 .ensures, c .before .before .before .before .place-after .ensures, coded .before .field-after .ensures)
     (row .before .before .before .before .loop .inv
-    ∙ found-later (a .d) (a .s .now) (a .guide .now) (row .before .before .before .before .loop .c) (row .before .before .if1 .taken) (sym (row .before .is-segment .ensures) ∙ not-true _ (row .if2 .taken)) (sym (coded .before .before .before .is-element .ensures) ∙ not-false _ (coded .before .before .if3 .left)) (rw (coded .codes-of .ensures) at (c .if4 .left)))
+    ∙ found-later (a .d) (a .s .now) (a .guide .now) (row .before .before .before .before .loop .c) (row .before .before .if1 .taken) (sym (row .before .is-segment .ensures) ∙ not-true _ (row .if2 .taken)) (sym (coded .before .before .before .is-element .ensures) ∙ not-false _ (coded .before .before .if3 .left)) (rw (coded .codes-at .ensures) at (c .if4 .left)))
 
 returns-2 : tie.Need-returns-2 Inv-loop μ-loop
 returns-2 c =
@@ -74,7 +74,7 @@ next-found-spec =
     loop-less
     loop-again
     (λ c κs. search needs)
-    codes-of-requires
+    codes-at-requires
     (λ c κs. search needs)
     (λ c κs. search needs)
     returns

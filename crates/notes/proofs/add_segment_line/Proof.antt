@@ -4,7 +4,7 @@ use Rattle.tables.specs.Reading.{idBytes}
 use Rattle.rules.specs.Cutting.{split, field}
 use Rattle.rules.specs.Segments.{echoed}
 use Rattle.writing.proofs.Laws.{kept}
-use Rattle.notes.proofs.Laws.{echo-law, lined-none, lined-some}
+use Rattle.notes.proofs.Laws.{echoed-id-law, lined-none, lined-some}
 use Rattle.notes.proofs.Sofar.{adds-none}
 use native.Mathlib.Omega.{arith}
 use borrow.Author.Needs.{needs}
@@ -24,7 +24,7 @@ returns-2 c =
     let line = c .before .before .before .before in
     let a = line .before .before .before .before .before .before .args in
     rw (lined-some (echoed (field (split (a .d .element) (a .s .now)) 0)) (a .taken .passed .position) (a .taken .own) (a .faulty) (line .before .before .if1 .left))
-    (rw (ap idBytes (line .echo .ensures) ∙ echo-law (line .before .id .result .now) ∙ ap echoed (line .before .id .ensures)) at (c .before .before .add-line .ensures))
+    (rw (ap idBytes (line .echoed-id .ensures) ∙ echoed-id-law (line .before .id .result .now) ∙ ap echoed (line .before .id .ensures)) at (c .before .before .add-line .ensures))
 
 pub add-segment-line-spec : {M : Type 1} → statement M
 add-segment-line-spec =

@@ -1,9 +1,9 @@
--- `elements::codes_of` meets its contract.
+-- `elements::codes_at` meets its contract.
 use Rattle.elements.specs.Checks.{codesAt}
 use Rattle.elements.proofs.Places.{after-order, after-within}
 use borrow.Author.Needs.{needs}
-use Rattle.elements.proofs.codes_of.Statement.{statement}
-use Rattle.elements.proofs.codes_of.Tie as tie
+use Rattle.elements.proofs.codes_at.Statement.{statement}
+use Rattle.elements.proofs.codes_at.Tie as tie
 
 sub-e : tie.Need-sub-e
 sub-e c = let a = c .before .args in after-order (a .d .element) (a .s .now) (a .c .end) (c .before .pre)
@@ -18,8 +18,8 @@ returns : tie.Need-returns
 unfolding codesAt
 returns c = rw (c .note-code .ensures, c .before .element-code .ensures, c .before .before .element-at .ensures, c .before .before .before .before .before .pre)
 
-pub codes-of-spec : {M : Type 1} → statement M
-codes-of-spec =
+pub codes-at-spec : {M : Type 1} → statement M
+codes-at-spec =
     tie.close
     (tie.spec
     sub-e
