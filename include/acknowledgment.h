@@ -27,7 +27,9 @@ extern "C" {
  * is told by the number that comes back:
  *
  *   0        answered. The response is the first *length bytes of the buffer;
- *            every byte after them is as lent.
+ *            every byte after them is as lent. An AK4 with code 4, 5, 7, 8, 9
+ *            or 10 shows the first 99 bytes of the element as received, unless
+ *            the element has a byte that is not valid.
  *   1 to 13  refused. *length is 0 and the buffer is as lent.
  *   14       the response does not fit. *length is the length that it needs
  *            and the buffer is as lent: call again with a longer one.

@@ -53,6 +53,12 @@ fn faulty_set(number: usize) -> String {
     format!("ST*990*{number:04}~B1*ABCDE*L101*20241315*Q~L11**CN~SE*3*{number:04}~")
 }
 
+/// With one value that is too long, and cut where it is shown.
+fn long_value_set(number: usize) -> String {
+    let value = "L".repeat(100);
+    format!("ST*990*{number:04}~B1*ABCD*{value}*20240315*A~SE*3*{number:04}~")
+}
+
 /// Clean up to its trailer, which counts a segment too many.
 fn odd_set(number: usize) -> String {
     format!("ST*990*{number:04}~B1*ABCD*L{number:04}*20240315*A~L11*4711*CN~SE*5*{number:04}~")
@@ -117,6 +123,10 @@ pub fn answered() -> Vec<Input> {
     }));
     inputs.extend([
         input("900 faulty sets", group(900, faulty_set)),
+        input(
+            "400 sets, each with a value of 100 bytes that is too long",
+            group(400, long_value_set),
+        ),
         input(
             "900 sets, each odd in its last segment",
             group(900, odd_set),

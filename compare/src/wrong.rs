@@ -9,6 +9,7 @@ use second::generator::{Case, Family};
 use std::collections::hash_map::{Entry, HashMap};
 
 mod calendars;
+mod echoes;
 
 /// What the gate compares: `compare cases --seed 1 --count 200000`.
 const SEED: u64 = 1;
@@ -28,19 +29,8 @@ struct Wrong<S, T> {
 
 impl<S: Fn(&mut Segments) -> bool, T: Fn(&[Vec<u8>], &mut Segments)> Wrong<S, T> {
     fn differs(&self, case: &Case) -> bool {
-        let lent = 0;
-        let wrong = self.response(case).map(|response| {
-            outcome(case, lent, |buffer| {
-                match buffer.get_mut(..response.len()) {
-                    None => (14, response.len()),
-                    Some(start) => {
-                        start.copy_from_slice(&response);
-                        (0, response.len())
-                    }
-                }
-            })
-        });
-        wrong.is_some_and(|wrong| wrong != of_second(case, lent))
+        let wrong = self.response(case);
+        wrong.is_some_and(|wrong| differs(case, &wrong))
     }
 
     /// Nothing where it is no other than the right one.
@@ -61,6 +51,21 @@ impl<S: Fn(&mut Segments) -> bool, T: Fn(&[Vec<u8>], &mut Segments)> Wrong<S, T>
     fn shown(&self, family: Family) -> usize {
         shown(family, |case| self.differs(case))
     }
+}
+
+/// Whether a program that sends this response is another than the second one.
+fn differs(case: &Case, response: &[u8]) -> bool {
+    let lent = 0;
+    let sent = outcome(case, lent, |buffer| {
+        match buffer.get_mut(..response.len()) {
+            None => (14, response.len()),
+            Some(start) => {
+                start.copy_from_slice(response);
+                (0, response.len())
+            }
+        }
+    });
+    sent != of_second(case, lent)
 }
 
 /// How many of the gate's cases of a family differ, up to `SEVERAL`.

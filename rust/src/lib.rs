@@ -41,7 +41,8 @@ impl Refusal {
 }
 
 /// Answers an interchange. The response is the part of `buffer` that is given
-/// back; a refusal leaves `buffer` as it was.
+/// back; a refusal leaves `buffer` as it was. Where a value is wrong, its AK4
+/// shows at most the first 99 bytes that were received.
 pub fn acknowledge<'a>(
     interchange: &[u8],
     buffer: &'a mut [u8],

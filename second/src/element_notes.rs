@@ -21,20 +21,40 @@ pub enum ElementError {
     ExclusionViolated = 10,
 }
 
+impl ElementError {
+    /// Whether it speaks of a value that AK404 can show.
+    fn has_value(self) -> bool {
+        matches!(
+            self,
+            ElementError::TooShort
+                | ElementError::TooLong
+                | ElementError::InvalidCode
+                | ElementError::InvalidDate
+                | ElementError::InvalidTime
+                | ElementError::ExclusionViolated
+        )
+    }
+}
+
+/// AK404 has no more bytes than these.
+const LONGEST_ECHO: usize = 99;
+
 #[derive(Debug, Clone, Copy, PartialEq, Eq)]
-pub struct ElementNote {
+pub struct ElementNote<'a> {
     pub place: usize,
     /// Nothing for the place after the last of the table.
     pub reference: Option<u16>,
     pub error: ElementError,
+    /// The value's first bytes as received; empty where none are shown.
+    pub echo: &'a [u8],
 }
 
 /// All notes on `segment`, by place, then code.
-pub fn element_notes(
-    segment: &Segment,
+pub fn element_notes<'a>(
+    segment: &Segment<'a>,
     layout: &SegmentLayout,
     delimiters: &Delimiters,
-) -> Vec<ElementNote> {
+) -> Vec<ElementNote<'a>> {
     // A set, since the same place and code are noted once.
     let mut found = BTreeSet::new();
     for (place, row) in (1..).zip(layout.elements) {
@@ -48,12 +68,25 @@ pub fn element_notes(
     if segment.elements.len() > layout.elements.len() {
         found.insert((layout.elements.len() + 1, ElementError::TooMany));
     }
-    let note = |(place, error)| ElementNote {
+    // A value with an invalid byte is shown under no code.
+    let is_shown = |place, error: ElementError| {
+        error.has_value() && !found.contains(&(place, ElementError::InvalidCharacter))
+    };
+    let note = |&(place, error)| ElementNote {
         place,
         reference: layout.elements.get(place - 1).map(|row| row.reference),
         error,
+        echo: if is_shown(place, error) {
+            cut(segment.element(place))
+        } else {
+            &[]
+        },
     };
-    found.into_iter().map(note).collect()
+    found.iter().map(note).collect()
+}
+
+fn cut(value: &[u8]) -> &[u8] {
+    &value[..value.len().min(LONGEST_ECHO)]
 }
 
 fn element_error(

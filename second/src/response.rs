@@ -97,13 +97,14 @@ fn write_ak3(writer: &mut Writer, note: &SegmentNote) {
 }
 
 fn write_ak4(writer: &mut Writer, note: &ElementNote) {
-    let reference = note.reference.map(number);
-    writer.segment(&[
-        b"AK4",
-        &number(note.place),
-        &reference.unwrap_or_default(),
-        &number(note.error as usize),
-    ]);
+    let place = number(note.place);
+    let reference = note.reference.map(number).unwrap_or_default();
+    let code = number(note.error as usize);
+    let mut parts: Vec<&[u8]> = vec![b"AK4", &place, &reference, &code];
+    if !note.echo.is_empty() {
+        parts.push(note.echo);
+    }
+    writer.segment(&parts);
 }
 
 fn write_ak9(writer: &mut Writer, verdict: &GroupVerdict) {

@@ -24,7 +24,7 @@ pub struct SegmentNote<'a> {
     pub position: usize,
     /// Ascending, at least one.
     pub errors: Vec<SegmentError>,
-    pub elements: Vec<ElementNote>,
+    pub elements: Vec<ElementNote<'a>>,
 }
 
 /// What AK301 says for an id that is none.
@@ -115,7 +115,7 @@ impl<'a> Walk<'a, '_> {
         id: &'a [u8],
         position: usize,
         errors: Vec<SegmentError>,
-        elements: Vec<ElementNote>,
+        elements: Vec<ElementNote<'a>>,
     ) {
         self.notes.push(SegmentNote {
             id,

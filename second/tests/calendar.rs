@@ -39,9 +39,9 @@ fn b103_is_a_day_or_gets_code_8() {
     for day in DAYS {
         assert_eq!(with_b103(day), "AK5*A~", "{day}");
     }
-    let bad = "AK3*B1*2**8~AK4*3*373*8~AK5*R*5~";
     for no_day in NO_DAYS {
-        assert_eq!(with_b103(no_day), bad, "{no_day}");
+        let bad = format!("AK3*B1*2**8~AK4*3*373*8*{no_day}~AK5*R*5~");
+        assert_eq!(with_b103(no_day), bad);
     }
 }
 
@@ -106,10 +106,10 @@ fn isa09_is_not_under_rule_dt() {
 #[test]
 fn other_codes_still_come_before_8() {
     let code = |b103: &str| with_b103(b103).replace("AK3*B1*2**8~AK4*3*373*", "");
-    assert_eq!(code("2023023"), "4~AK5*R*5~");
-    assert_eq!(code("202302300"), "5~AK5*R*5~");
+    assert_eq!(code("2023023"), "4*2023023~AK5*R*5~");
+    assert_eq!(code("202302300"), "5*202302300~AK5*R*5~");
     assert_eq!(code("202302>0"), "6~AK5*R*5~");
-    assert_eq!(code("202302A0"), "8~AK5*R*5~");
+    assert_eq!(code("202302A0"), "8*202302A0~AK5*R*5~");
 }
 
 #[test]

@@ -17,7 +17,7 @@ fn with_l11(l11: &str) -> String {
 
 #[test]
 fn p1_b101_of_one_byte_is_too_short() {
-    assert_eq!(with_b1("B1*A"), "AK3*B1*2**8~AK4*1*140*4~AK5*R*5~");
+    assert_eq!(with_b1("B1*A"), "AK3*B1*2**8~AK4*1*140*4*A~AK5*R*5~");
 }
 
 #[test]
@@ -28,7 +28,8 @@ fn p2_b101_of_two_and_of_four_bytes_is_clean() {
 
 #[test]
 fn p3_b101_of_five_bytes_is_too_long() {
-    assert_eq!(with_b1("B1*ABCDE"), "AK3*B1*2**8~AK4*1*140*5~AK5*R*5~");
+    let long = "AK3*B1*2**8~AK4*1*140*5*ABCDE~AK5*R*5~";
+    assert_eq!(with_b1("B1*ABCDE"), long);
 }
 
 #[test]
@@ -49,7 +50,7 @@ fn p6_l11_with_place_1_only_lacks_place_2() {
 #[test]
 fn p7_day_31_is_clean_and_day_00_is_a_bad_date() {
     assert_eq!(with_b1("B1*ABCD**20241231"), "AK5*A~");
-    let bad = "AK3*B1*2**8~AK4*3*373*8~AK5*R*5~";
+    let bad = "AK3*B1*2**8~AK4*3*373*8*20240100~AK5*R*5~";
     assert_eq!(with_b1("B1*ABCD**20240100"), bad);
 }
 

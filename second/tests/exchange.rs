@@ -27,7 +27,7 @@ fn the_worked_exchange() {
         "ISA*00*          *00*          *ZZ*BROKERB        *ZZ*CARRIERA       *240315*0930*U*00401*000000077*0*T*>~\
         GS*FA*BROKB*CARRA*20240315*0930*77*X*004010~\
         ST*997*0001~AK1*GF*42~AK2*990*0001~AK5*A~\
-        AK2*990*0002~AK3*B1*2**8~AK4*1*140*5~AK4*3*373*8~AK4*4*558*7~\
+        AK2*990*0002~AK3*B1*2**8~AK4*1*140*5*ABCDE~AK4*3*373*8*20241315~AK4*4*558*7*Q~\
         AK3*L11*3**8~AK4*1*127*2~AK5*R*4*5~\
         AK9*P*2*2*1~SE*14*0001~GE*1*77~IEA*1*000000077~";
     assert_eq!(printed(input), expected);

@@ -158,6 +158,71 @@ fn days_around_the_ends_of_months_stand_in_each_place() {
     assert!(answered * 4 > cases * 3, "{answered} of {cases}");
 }
 
+/// The elements that a table can have in the sets of a case, each as the id of
+/// its segment and its bytes. ST01 and ST02 are left out.
+fn elements(case: &Case) -> Vec<(&[u8], &[u8])> {
+    let (separator, terminator) = (case.interchange[3], case.interchange[105]);
+    let mut elements = Vec::new();
+    for segment in case.interchange.split(|&byte| byte == terminator) {
+        let mut fields = segment.split(|&byte| byte == separator);
+        let id = fields.next().unwrap_or_default();
+        let skipped = match id {
+            b"ST" => 2,
+            b"B1" | b"L11" | b"K1" | b"SE" => 0,
+            _ => continue,
+        };
+        elements.extend(fields.skip(skipped).map(|element| (id, element)));
+    }
+    elements
+}
+
+/// What is remarkable about a value, if anything is.
+fn remarkable(id: &[u8], value: &[u8], component: u8) -> Option<&'static str> {
+    let invalid = |&byte: &u8| !(32..=126).contains(&byte) || byte == component;
+    let digits = value.strip_prefix(b"-").filter(|_| id == b"SE");
+    match (value.iter().position(invalid), digits, value.len()) {
+        (Some(98), ..) => Some("a bad byte at place 99"),
+        (Some(99), ..) => Some("a bad byte at place 100"),
+        (Some(149), ..) => Some("a bad byte at place 150"),
+        (Some(_), ..) => None,
+        (_, Some(b""), _) => Some("a lone minus"),
+        (_, Some(digits), _) if digits.len() == 10 => Some("a minus and ten digits"),
+        (_, Some(digits), _) if digits.len() == 11 => Some("a minus and eleven digits"),
+        (_, Some(digits), _) if digits.len() > 98 => Some("a minus and many digits"),
+        (.., 1..=9) if value.trim_ascii().is_empty() => Some("a few spaces"),
+        (.., 31..) if value.trim_ascii().is_empty() => Some("many spaces"),
+        (.., 98) => Some("98 bytes"),
+        (.., 99) => Some("99 bytes"),
+        (.., 100) => Some("100 bytes"),
+        (.., 120) => Some("120 bytes"),
+        (.., 200..) => Some("hundreds of bytes"),
+        _ => None,
+    }
+}
+
+#[test]
+fn values_stand_on_both_sides_of_the_cut() {
+    let mut values: BTreeMap<_, u32> = BTreeMap::new();
+    let (mut fits, mut one_short) = (0, 0);
+    let echoes = |&index: &u64| Family::of(SEED, index) == Family::Echoes;
+    for case in (0..50_000)
+        .filter(echoes)
+        .map(|index| Case::make(SEED, index))
+    {
+        let component = case.interchange[104];
+        for (id, value) in elements(&case) {
+            *values.entry(remarkable(id, value, component)).or_default() += 1;
+        }
+        let answer = case.answer();
+        fits += u32::from(answer.number() == 0 && answer.length() == case.buffer_length);
+        one_short += u32::from(answer.number() == 14 && answer.length() == case.buffer_length + 1);
+    }
+    values.remove(&None);
+    assert_eq!(values.len(), 14, "{values:?}");
+    assert!(values.values().all(|&count| count >= 20), "{values:?}");
+    assert!(fits >= 100 && one_short >= 100, "{fits} {one_short}");
+}
+
 #[test]
 fn groups_and_sets_are_as_large_as_fits() {
     let (mut most_sets, mut most_segments) = (0, 0);

@@ -14,14 +14,14 @@ fn a_late_b1_is_missing_where_passed_over_and_out_of_sequence_where_it_comes() {
 #[test]
 fn a_segment_out_of_sequence_has_its_elements_checked() {
     let set = "ST*990*0001~B1*AB~L11***T~B1*A~SE*5*0001~";
-    let expected = "AK3*B1*4**7*8~AK4*1*140*4~AK5*R*5~";
+    let expected = "AK3*B1*4**7*8~AK4*1*140*4*A~AK5*R*5~";
     assert_eq!(notes_of_set(set), expected);
 }
 
 #[test]
 fn a_segment_beyond_its_maximum_has_its_elements_checked() {
     let set = "ST*990*0001~B1*AB~B1*A~B1*AB~SE*5*0001~";
-    let expected = "AK3*B1*3**5*8~AK4*1*140*4~AK3*B1*4**5~AK5*R*5~";
+    let expected = "AK3*B1*3**5*8~AK4*1*140*4*A~AK3*B1*4**5~AK5*R*5~";
     assert_eq!(notes_of_set(set), expected);
 }
 
@@ -117,9 +117,10 @@ fn st_has_a_third_element_in_006010_only() {
 
 #[test]
 fn st_has_its_elements_checked() {
-    let long = format!("ST*990*0001*{}~B1*ABCD~SE*3*0001~", "X".repeat(36));
-    let expected = "AK3*ST*1**8~AK4*3*1705*5~AK5*R*5~";
-    assert_eq!(notes_of_set(&long), expected);
+    let long = "X".repeat(36);
+    let set = format!("ST*990*0001*{long}~B1*ABCD~SE*3*0001~");
+    let expected = format!("AK3*ST*1**8~AK4*3*1705*5*{long}~AK5*R*5~");
+    assert_eq!(notes_of_set(&set), expected);
     let fourth = "ST*990*0001**~B1*ABCD~SE*3*0001~";
     let expected = "AK3*ST*1**8~AK4*4**3~AK5*R*5~";
     assert_eq!(notes_of_set(fourth), expected);
@@ -144,12 +145,12 @@ fn the_trailer_has_its_elements_checked() {
     );
     assert_eq!(of("SE**0001"), format!("{head}AK4*1*96*1~AK5*R*4*5~"));
     assert_eq!(of("SE*3"), format!("{head}AK4*2*329*1~AK5*R*3*5~"));
-    assert_eq!(of("SE*-*0001"), format!("{head}AK4*1*96*4~AK5*R*4*5~"));
+    assert_eq!(of("SE*-*0001"), format!("{head}AK4*1*96*4*-~AK5*R*4*5~"));
     assert_eq!(of("SE*+3*0001"), format!("{head}AK4*1*96*6~AK5*R*4*5~"));
-    assert_eq!(of("SE*3*001"), format!("{head}AK4*2*329*4~AK5*R*3*5~"));
+    assert_eq!(of("SE*3*001"), format!("{head}AK4*2*329*4*001~AK5*R*3*5~"));
     assert_eq!(
         of("SE*00000000003*0001"),
-        format!("{head}AK4*1*96*5~AK5*R*4*5~")
+        format!("{head}AK4*1*96*5*00000000003~AK5*R*4*5~")
     );
     assert_eq!(of("SE*0000000003*0001"), "AK5*A~");
     assert_eq!(of("SE*4294967299*0001"), "AK5*R*4~");
@@ -166,15 +167,12 @@ fn a_minus_that_is_the_component_separator_is_an_invalid_byte() {
 
 #[test]
 fn all_elements_of_b1_and_l11_are_held_to_the_table() {
-    let long = "X".repeat(81);
-    let set = format!(
-        "ST*990*0001~B1**{}*2024*AA~L11*{}*C*{}~SE*4*0001~",
-        &long[..31],
-        &long[..31],
-        long
+    let [x, y, z] = ["X".repeat(31), "Y".repeat(31), "Z".repeat(81)];
+    let set = format!("ST*990*0001~B1**{x}*2024*AA~L11*{y}*C*{z}~SE*4*0001~");
+    let expected = format!(
+        "AK3*B1*2**8~AK4*1*140*1~AK4*2*145*5*{x}~AK4*3*373*4*2024~AK4*4*558*5*AA~\
+         AK3*L11*3**8~AK4*1*127*5*{y}~AK4*2*128*4*C~AK4*3*352*5*{z}~AK5*R*5~"
     );
-    let expected = "AK3*B1*2**8~AK4*1*140*1~AK4*2*145*5~AK4*3*373*4~AK4*4*558*5~\
-                    AK3*L11*3**8~AK4*1*127*5~AK4*2*128*4~AK4*3*352*5~AK5*R*5~";
     assert_eq!(notes_of_set(&set), expected);
 }
 

@@ -33,7 +33,7 @@ use Rattle.writing.proofs.Laws.{exact}
 use Rattle.acknowledgment.specs.Writers.{Answerable}
 
 -- 1. A text that is no longer than a response is, and the length that was told of it.
-module _ (o t : Bytes) {n : ℕ} (told : n ≡ sat (length t)) (small : length t < 1099511627776) where
+module _ (o t : Bytes) {n : ℕ} (told : n ≡ sat (length t)) (small : length t < 4398046511104) where
   length-is : n ≡ length t
   length-is = omega arith
 

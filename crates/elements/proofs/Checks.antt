@@ -1,29 +1,29 @@
 -- The check of a segment: one row after the other, and that what it finds is document 01's.
 use mathlib.Core.Path.{_≡_, refl, sym, ap, _∙_}
 use mathlib.Core.Bool.{Bool, true, false, _||_, not, true≢false}
-use mathlib.Core.List.{List, [], _∷_, _++_, map}
+use mathlib.Core.List.{List, [], _∷_, _++_, map, map-congr-left}
 use Prim.Native.Nat.{ℕ, zero, suc, _+_, _-_, _<_, _≤_}
 use native.Mathlib.Nat.{zero-lt-suc}
 use native.Mathlib.Numerals.{add-one}
 use native.Mathlib.Omega.{arith}
 use borrow.Author.Tests.{lt-ltb, le-ltb, ltb-true, ltb-false}
 use lib.Dec.{eqb, ltb}
-use lib.ListN.{length, getD, drop, drop-of-length-le, length-append}
-use lib.Seq.{drop-cons, drop-drop}
-use Rattle.rules.specs.Base.{Bytes, null, every, if_then_else_}
+use lib.ListN.{length, getD, take, drop, drop-of-length-le, length-append, length-take}
+use lib.Seq.{take-all, take-take, drop-cons, drop-drop}
+use Rattle.rules.specs.Base.{Bytes, null, any, every, if_then_else_}
 use Rattle.rules.specs.Cutting.{split}
-use Rattle.rules.specs.Elements.{placeCodes, found, findings}
+use Rattle.rules.specs.Elements.{isEchoed, longestEcho, echoOf, placeCodes, Finding, found, findings}
 use Rattle.rules.specs.Elements as law
 use Rattle.rules.specs.Tables.{Syntax}
 use Rattle.rules.specs.declared.Delimiters.{Delimiters}
-use Rattle.rules.specs.declared.Finding.{Finding}
-use Rattle.text.specs.Text.{indexWhere}
+use Rattle.rules.specs.declared.Span.{Span}
+use Rattle.text.specs.Text.{indexWhere, part}
 use Rattle.text.proofs.Search.{find-le}
 use Rattle.segments.proofs.Fields.{FieldAt, field-first, field-next, field-some, field-none}
 use Rattle.tables.specs.Rows.{isRow, rowsIn, syntaxIn}
 use Rattle.tables.specs.Reading.{Guide, entryAt, rowAt, rowBelow}
 use Rattle.tables.proofs.Laws.{below-rest, rows-here, rows-skip, rows-stop, rows-end}
-use Rattle.elements.specs.Checks.{isSome, findingsAt, noteRow, isCoded, surplus, surplusFindings, codesAt, past, over, foundIn, nextFound, findingsIn, findingsLeft, findingsFrom, start}
+use Rattle.elements.specs.Checks.{isSome, findingIn, beginning, echoAt, findingBy, givenCodes, findingsAt, noteRow, isCoded, surplus, surplusFindings, codesAt, past, over, foundIn, nextFound, findingsIn, findingsLeft, findingsFrom, start}
 use Rattle.elements.specs.declared.Cursor.{Cursor}
 use Rattle.elements.specs.declared.Found.{Found}
 use Rattle.elements.specs.declared.Found.the-variants.{Codes, Nothing}
@@ -32,25 +32,54 @@ use Rattle.elements.proofs.Places.{next-field, next-present, next-at, a
 
 -- 1. The codes of a place.
 -- a code is a finding, and no code is none
-some-found : (p : PlaceCodes) → isCoded p ≡ true → 0 < length (findingsAt p)
+some-found : (s : Bytes) (p : PlaceCodes) → isCoded p ≡ true → 0 < length (findingsAt s p)
 unfolding findingsAt every
-some-found p e = go (eqb (p .own) 0) refl (eqb (p .noted) 0) refl e
+some-found s p e = go (eqb (p .own) 0) refl (eqb (p .noted) 0) refl e
   where
-    go : (a : Bool) → eqb (p .own) 0 ≡ a → (b : Bool) → eqb (p .noted) 0 ≡ b → not a || not b ≡ true → 0 < length (findingsAt p)
+    go : (a : Bool) → eqb (p .own) 0 ≡ a → (b : Bool) → eqb (p .noted) 0 ≡ b → not a || not b ≡ true → 0 < length (findingsAt s p)
     go true x true y q = absurd (true≢false (sym q))
     go true x false y q = rw (x, y) (zero-lt-suc 0)
     go false x b y q = rw x (zero-lt-suc _)
 
-none-found : (p : PlaceCodes) → isCoded p ≡ false → findingsAt p ≡ []
+none-found : (s : Bytes) (p : PlaceCodes) → isCoded p ≡ false → findingsAt s p ≡ []
 unfolding findingsAt every
-none-found p e = go (eqb (p .own) 0) refl (eqb (p .noted) 0) refl e
+none-found s p e = go (eqb (p .own) 0) refl (eqb (p .noted) 0) refl e
   where
-    go : (a : Bool) → eqb (p .own) 0 ≡ a → (b : Bool) → eqb (p .noted) 0 ≡ b → not a || not b ≡ false → findingsAt p ≡ []
+    go : (a : Bool) → eqb (p .own) 0 ≡ a → (b : Bool) → eqb (p .noted) 0 ≡ b → not a || not b ≡ false → findingsAt s p ≡ []
     go true x true y q = rw (x, y)
     go true x false y q = absurd (true≢false q)
     go false x b y q = absurd (true≢false q)
 
--- 2. One row after the other.
+-- 2. What is echoed of a value is its beginning.
+begins : (s : Bytes) (v : Span) → part s (beginning v .start) (beginning v .end) ≡ take 99 (part s (v .start) (v .end))
+begins s v = go (ltb (v .start + 99) (v .end)) refl
+  where
+    go : (b : Bool) → ltb (v .start + 99) (v .end) ≡ b
+        → take ((if b then v .start + 99 else v .end) - v .start) (drop (v .start) s) ≡ take 99 (part s (v .start) (v .end))
+    go true h =
+        let long = ltb-true (v .start + 99) (v .end) h in
+        let cut : v .start + 99 - v .start ≡ 99 = omega arith in
+        rw cut (sym (take-take 99 (v .end - v .start) (drop (v .start) s) (omega arith)))
+    go false h =
+        let short = ltb-false (v .start + 99) (v .end) h in
+        sym (take-all 99 (part s (v .start) (v .end)) (omega (arith, length-take (v .end - v .start) (drop (v .start) s))))
+
+echo-is : (s : Bytes) (p : PlaceCodes) (c : ℕ)
+    → part s (echoAt p c .start) (echoAt p c .end) ≡ echoOf c (p .own) (part s (p .value .start) (p .value .end))
+unfolding echoAt longestEcho echoOf
+echo-is s p c = go (isEchoed c (p .own))
+  where
+    v : Span
+    v = p .value
+
+    at : Bool → Span
+    at b = if b then beginning v else record { start = v .start; end = v .start }
+
+    go : (b : Bool) → part s (at b .start) (at b .end) ≡ (if b then take 99 (part s (v .start) (v .end)) else [])
+    go true = begins s v
+    go false = let none : v .start - v .start ≡ 0 = omega arith in rw none
+
+-- 3. One row after the other.
 -- no note stands before the first
 abbrev isEnd : List ℕ → Bool
 isEnd r = isRow 4 r || isRow 1 r
@@ -115,11 +144,11 @@ module _ (d : Delimiters) (s : Bytes) (rows : Guide) where
       left-over e f = rw (here h, e, f)
 
       left-here : isRow 1 (getD rows (c .row) []) ≡ false → isRow 2 (getD rows (c .row) []) ≡ true
-          → findingsLeft d s rows c ≡ findingsAt (codesAt d s rows c) ++ findingsLeft d s rows (past d s rows c)
+          → findingsLeft d s rows c ≡ findingsAt s (codesAt d s rows c) ++ findingsLeft d s rows (past d s rows c)
       unfolding findingsLeft findingsIn
       left-here e f = rw (here h, e, f)
 
-  -- 3. What is found next, and then the rest, is all that is found.
+  -- 4. What is found next, and then the rest, is all that is found.
   -- what is found has a code
   abbrev Coded : Found → Type 0
   Coded (Codes p v) = isCoded p ≡ true
@@ -133,7 +162,7 @@ module _ (d : Delimiters) (s : Bytes) (rows : Guide) where
       → ((n : ℕ) → findingsLeft d s rows (record { notes = c .notes; row = c .row; place = c .place; end = n })
       ≡ surplusFindings s (record { notes = c .notes; row = c .row; place = c .place; end = n }))
       → Told c
-  unfolding surplus findingsAt every
+  unfolding surplus findingsAt echoAt every any
   told-surplus c e f = go (ltb (c .end) (length s)) refl
     where
       go : (b : Bool) → ltb (c .end) (length s) ≡ b → Told c
@@ -150,7 +179,7 @@ module _ (d : Delimiters) (s : Bytes) (rows : Guide) where
           told-surplus c (found-stop c l e) (λ n. left-stop (record { notes = c .notes; row = c .row; place = c .place; end = n }) l e)
       turn l false e false f q g = rw (found-over c l e f, left-over c l e f) (skip l)
       turn l false e true f true g = rw (found-here c l e f g, left-here c l e f) (refl, g)
-      turn l false e true f false g = rw (found-later c l e f g, left-here c l e f, none-found (codesAt d s rows c) g) (next l)
+      turn l false e true f false g = rw (found-later c l e f g, left-here c l e f, none-found s (codesAt d s rows c) g) (next l)
 
       go : (b : Bool) → ltb (c .row) (length rows) ≡ b → Told c
       go true l = turn (ltb-true _ _ l) (isRow 1 (getD rows (c .row) [])) refl (isRow 2 (getD rows (c .row) [])) refl (isCoded (codesAt d s rows c)) refl
@@ -171,7 +200,7 @@ module _ (d : Delimiters) (s : Bytes) (rows : Guide) where
       let told = told-by (length rows) c (omega arith) in
       let coded : isCoded p ≡ true = rw e at (told .1) in
       let all = told .0 ∙ ap (findingsFrom d s rows) e in
-      omega (arith, ap length all ∙ length-append (findingsAt p) (findingsLeft d s rows v), some-found p coded)
+      omega (arith, ap length all ∙ length-append (findingsAt s p) (findingsLeft d s rows v), some-found s p coded)
 
   pub left-none : (c : Cursor) → null (findingsLeft d s rows c) ≡ not (isSome (nextFound d s rows c))
   left-none c = let told = told-by (length rows) c (omega arith) in rw (told .0) (go (nextFound d s rows c) (told .1))
@@ -181,10 +210,10 @@ module _ (d : Delimiters) (s : Bytes) (rows : Guide) where
       some (x ∷ a) b h = refl
 
       go : (f : Found) → Coded f → null (findingsFrom d s rows f) ≡ not (isSome f)
-      go (Codes p v) h = some (findingsAt p) (findingsLeft d s rows v) (some-found p h)
+      go (Codes p v) h = some (findingsAt s p) (findingsLeft d s rows v) (some-found s p h)
       go Nothing h = refl
 
-  -- 4. From a cursor that stands right on, all that is found is what document 01 finds.
+  -- 5. From a cursor that stands right on, all that is found is what document 01 finds.
   module _ (notes : List Syntax) where
     -- field and place belong together, and the notes are the entry's
     record Right (c : Cursor) : Type 0 where
@@ -209,11 +238,18 @@ module _ (d : Delimiters) (s : Bytes) (rows : Guide) where
             rw (l, le-ltb (c .place) (length (split (d .element) s)) (field-none (r .at) (omega arith)))
 
     codes-right : (c : Cursor) → Right c
-        → findingsAt (codesAt d s rows c)
-        ≡ map (found (c .place) (rowAt rows (c .row))) (placeCodes d notes (split (d .element) s) (rowAt rows (c .row)) (c .place))
+        → findingsAt s (codesAt d s rows c)
+        ≡ map (found d (split (d .element) s) (rowAt rows (c .row)) (c .place)) (placeCodes d notes (split (d .element) s) (rowAt rows (c .row)) (c .place))
     unfolding findingsAt codesAt
     codes-right c r =
-        rw (place-codes notes (split (d .element) s) (c .place) d (rowAt rows (c .row)), next-present (r .at) (r .within), next-field (r .at) (r .within), r .noted)
+        let cut = split (d .element) s in
+        let row = rowAt rows (c .row) in
+        let p = codesAt d s rows c in
+        let codes : givenCodes p ≡ placeCodes d notes cut row (c .place) =
+        rw (place-codes notes cut (c .place) d row, next-present (r .at) (r .within), next-field (r .at) (r .within), r .noted) in
+        let here : (code : ℕ) → findingIn s (findingBy p code) ≡ found d cut row (c .place) code =
+        λ code. rw (echo-is s p code, next-field (r .at) (r .within)) in
+        map-congr-left {l = givenCodes p} (λ code m. here code) ∙ ap (map (found d cut row (c .place))) codes
 
     abbrev Is : Cursor → Type 0
     Is c = findingsLeft d s rows c ≡ law.findingsFrom d notes (split (d .element) s) (c .place) (rowsIn (drop (c .row) rows))

@@ -6,9 +6,9 @@ use lib.Dec.{eqb, ltb}
 use lib.ListN.{length, drop}
 use Rattle.rules.specs.Base.{Bytes, every, _⇒_, if_then_else_}
 use Rattle.rules.specs.Cutting.{split}
-use Rattle.rules.specs.Elements.{elementCode}
+use Rattle.rules.specs.Elements.{elementCode, isEchoed, Finding, surplusAt}
 use Rattle.rules.specs.declared.Delimiters.{Delimiters}
-use Rattle.rules.specs.declared.Finding.{Finding}
+use Rattle.rules.specs.declared.Finding as declared
 use Rattle.rules.specs.declared.Span.{Span}
 use Rattle.tables.specs.Rows.{isRow, syntaxIn}
 use Rattle.tables.specs.Reading.{Guide, rowAt, rowBelow}
@@ -24,11 +24,31 @@ abbrev pub isSome : Found → Bool
 isSome (Codes p c) = true
 isSome Nothing = false
 
--- the findings that the codes of a place are
-unfoldable pub findingsAt : PlaceCodes → List Finding
-findingsAt p =
-    map (λ code. record { place = p .place; reference = p .reference; code = code })
-    (every ((not (eqb (p .own) 0) ⇒ p .own) ∷ (not (eqb (p .noted) 0) ⇒ p .noted) ∷ []))
+-- the law's finding for one that the program makes: the echoed bytes of the segment s in place of where they lie
+abbrev pub findingIn : Bytes → declared.Finding → Finding
+findingIn s f = record { place = f .place; reference = f .reference; code = f .code; echo = part s (f .echo .start) (f .echo .end) }
+
+-- the first 99 bytes of what lies at v, or as many as there are
+abbrev pub beginning : Span → Span
+beginning v = record { start = v .start; end = if ltb (v .start + 99) (v .end) then v .start + 99 else v .end }
+
+-- where the echo of a place lies under code c: at the beginning of the value, or nowhere, which is an empty part at its start
+unfoldable pub echoAt : PlaceCodes → ℕ → Span
+echoAt p c =
+    if isEchoed c (p .own) then beginning (p .value)
+    else record { start = p .value .start; end = p .value .start }
+
+-- the finding that a code of a place is
+abbrev pub findingBy : PlaceCodes → ℕ → declared.Finding
+findingBy p c = record { place = p .place; reference = p .reference; code = c; echo = echoAt p c }
+
+-- the codes of a place: the value's own, then that of the notes
+abbrev pub givenCodes : PlaceCodes → List ℕ
+givenCodes p = every ((not (eqb (p .own) 0) ⇒ p .own) ∷ (not (eqb (p .noted) 0) ⇒ p .noted) ∷ [])
+
+-- the findings that they are, in the segment s
+unfoldable pub findingsAt : Bytes → PlaceCodes → List Finding
+findingsAt s p = map (λ c. findingIn s (findingBy p c)) (givenCodes p)
 
 -- the place after place n, as far as 64 bits go
 abbrev pub placeAfter : ℕ → ℕ
@@ -54,12 +74,12 @@ isCoded p = not (eqb (p .own) 0) || not (eqb (p .noted) 0)
 unfoldable pub surplus : Bytes → Cursor → Found
 surplus s c =
     if ltb (c .end) (length s)
-    then Codes (record { place = c .place; reference = 0; own = 3; noted = 0 })
+    then Codes (record { place = c .place; reference = 0; own = 3; noted = 0; value = record { start = 0; end = 0 } })
     (record { notes = c .notes; row = c .row; place = c .place; end = length s })
     else Nothing
 
 abbrev pub surplusFindings : Bytes → Cursor → List Finding
-surplusFindings s c = if ltb (c .end) (length s) then record { place = c .place; reference = 0; code = 3 } ∷ [] else []
+surplusFindings s c = if ltb (c .end) (length s) then surplusAt (c .place) ∷ [] else []
 
 module _ (d : Delimiters) (s : Bytes) (rows : Guide) where
   -- the codes of the next place by the element of the next row, in the next field
@@ -73,6 +93,7 @@ module _ (d : Delimiters) (s : Bytes) (rows : Guide) where
         reference = row .reference;
         own = elementCode d row e;
         noted = noteCodeBy (ltb (f .start) (f .end)) (syntaxIn (drop (c .notes) rows)) (split (d .element) s) (c .place);
+        value = f;
       }
 
   -- the cursor past that place; past a row that is no element
@@ -101,14 +122,14 @@ module _ (d : Delimiters) (s : Bytes) (rows : Guide) where
       let later = findingsIn rs (past c) in
       let skipped = findingsIn rs (over c) in
       if isRow 1 r then surplusFindings s c
-      else (if isRow 2 r then findingsAt (codesAt c) ++ later else skipped)
+      else (if isRow 2 r then findingsAt s (codesAt c) ++ later else skipped)
 
   unfoldable pub findingsLeft : Cursor → List Finding
   findingsLeft c = findingsIn (drop (c .row) rows) c
 
   -- the findings from what is found on
   abbrev pub findingsFrom : Found → List Finding
-  findingsFrom (Codes p c) = findingsAt p ++ findingsLeft c
+  findingsFrom (Codes p c) = findingsAt s p ++ findingsLeft c
   findingsFrom Nothing = []
 
   -- where the check by the entry of row k starts

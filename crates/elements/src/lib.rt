@@ -14,9 +14,10 @@ ghost use Rattle.tables.specs.Reading.{rowAt, noteAt};
 ghost use Rattle.elements.specs.Values.{isText, unlisted, spelledAs, ruleCode, valueCode, takesLength, codeBy};
 ghost use Rattle.elements.specs.Notes.{isE, breaks, noteCodeBy};
 ghost use Rattle.elements.specs.Marks.{noMarks, markedWith, marked, two, brokenBy, breaksNote};
-ghost use Rattle.elements.specs.Checks.{isSome, placeAfter, noteRow, nextStart, fieldAfter, codesAt, surplus, nextFound, start};
+ghost use Rattle.elements.specs.Checks.{isSome, beginning, echoAt, findingBy, placeAfter, noteRow, nextStart, fieldAfter, codesAt, surplus, nextFound, start};
 use rules::Delimiters;
 use rules::ElementCode;
+use rules::Finding;
 use rules::Kind;
 use rules::Relation;
 use rules::Span;
@@ -384,12 +385,63 @@ pub struct Cursor {
     pub end: usize,
 }
 
-// The codes of a place: that of its value and that of the notes, each 0 for none.
+// A code whose AK4 shows the value.
+fn shows_value(code: u8) -> bool
+    ensures { λ r. ⌜ r ≡ law.showsValue code ⌝ }
+{
+    (code == ElementCode::TOO_SHORT)
+        | (code == ElementCode::TOO_LONG)
+        | (code == ElementCode::NOT_LISTED)
+        | (code == ElementCode::NO_DATE)
+        | (code == ElementCode::NO_TIME)
+        | (code == ElementCode::SHUT_OUT)
+}
+
+// As much of a value as is echoed: its first bytes. A span that ends before it starts has no length, and stays as it is.
+fn beginning(value: Span) -> Span
+    ensures { λ r. ⌜ r ≡ beginning value ⌝ }
+{
+    let start = value.start;
+    if value.end <= start {
+        return value;
+    }
+    if value.end - start <= Finding::LONGEST_ECHO {
+        return value;
+    }
+    Span {
+        start,
+        end: start + Finding::LONGEST_ECHO,
+    }
+}
+
+// The codes of a place: that of its value and that of the notes, each 0 for none; and where the value lies.
 pub struct PlaceCodes {
     pub place: usize,
     pub reference: u16,
     pub own: u8,
     pub noted: u8,
+    pub value: Span,
+}
+
+impl PlaceCodes {
+    // Where the echo under one of the codes lies. A value with code 6 is echoed under none.
+    fn echo(self, code: u8) -> Span
+        ensures { λ r. ⌜ r ≡ echoAt self code ⌝ }
+    {
+        let value = self.value;
+        if shows_value(code) & (self.own != ElementCode::BAD_BYTE) {
+            return beginning(value);
+        }
+        let start = value.start;
+        Span { start, end: start }
+    }
+
+    // The finding of one of the codes.
+    pub fn finding(self, code: u8) -> Finding
+        ensures { λ r. ⌜ r ≡ findingBy self code ⌝ }
+    {
+        Finding::new(self.place, self.reference, code, self.echo(code))
+    }
 }
 
 // What a check finds next: the codes of a place that has any, and where it goes on.
@@ -588,6 +640,7 @@ fn codes_at(s: &[u8], d: Delimiters, guide: &[[u16; 6]], c: Cursor, field: Span)
         reference: row.reference,
         own: element_code(e, d, guide, c.row),
         noted: note_code(s, d.element, guide, c.notes, c.place, start < end),
+        value: field,
     }
 }
 
@@ -615,6 +668,8 @@ fn surplus(s: &[u8], c: Cursor) -> Found
             reference: 0,
             own: ElementCode::BEYOND_TABLE,
             noted: 0,
+            // Under this code nothing is echoed.
+            value: Span { start: 0, end: 0 },
         };
         let over = Cursor {
             notes: c.notes,

@@ -15,11 +15,10 @@ use Rattle.rules.specs.Base.{Bytes, ascii, null, all, same, member, keep, every
 use Rattle.rules.specs.Cutting.{Segment, field, cutAt, pieces, segments}
 use Rattle.rules.specs.Tables.{Entry, Table}
 use Rattle.tables.specs.Rows.{column, isRow, filled, entryIs, entriesIn, idsIn, tableOf}
-use Rattle.rules.specs.Elements.{findings}
+use Rattle.rules.specs.Elements.{Finding, findings}
 use Rattle.rules.specs.Segments.{Note, indexFrom, standing, findingsBy, missing, echoed, noted, segmentNote, walk, notesOf}
 use Rattle.rules.specs.Segments as law
 use Rattle.rules.specs.declared.Delimiters.{Delimiters}
-use Rattle.rules.specs.declared.Finding.{Finding}
 use Rattle.rules.proofs.Logic.{all-head, all-tail}
 use Rattle.text.proofs.Loops.{all-drop}
 use Rattle.text.specs.Text.{indexWhere}

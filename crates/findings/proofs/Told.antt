@@ -7,10 +7,10 @@ use native.Mathlib.Omega.{arith}
 use lib.ListN.{length}
 use Rattle.rules.specs.Base.{Bytes, null}
 use Rattle.rules.specs.Cutting.{Segment}
+use Rattle.rules.specs.Elements.{Finding}
 use Rattle.rules.specs.Segments.{Note}
 use Rattle.rules.specs.Response.{ak3, ak3s, ak4}
 use Rattle.rules.specs.declared.Delimiters.{Delimiters}
-use Rattle.rules.specs.declared.Finding.{Finding}
 use Rattle.tables.specs.Reading.{Guide}
 use Rattle.findings.specs.Events.{Event, Element, flat, written}
 use Rattle.findings.specs.Steps.{step}

@@ -11,9 +11,8 @@ use lib.Seq.{slice}
 use Rattle.rules.specs.Base.{null, every, if_then_else_}
 use Rattle.rules.specs.Cutting.{Segment, field}
 use Rattle.tables.specs.Rows.{column}
-use Rattle.rules.specs.Elements.{findings}
+use Rattle.rules.specs.Elements.{Finding, findings}
 use Rattle.rules.specs.Segments.{echoed}
-use Rattle.rules.specs.declared.Finding.{Finding}
 use Rattle.rules.specs.declared.Delimiters.{Delimiters}
 use Rattle.tables.specs.Reading.{Guide, entryAt}
 use Rattle.findings.specs.Events.{Event, Element}

@@ -4,9 +4,9 @@ use mathlib.Core.List.{List, [], _∷_, _++_, map}
 use Rattle.rules.specs.Base.{Bytes, ascii}
 use Rattle.rules.specs.Cutting.{Segment}
 use Rattle.rules.specs.Numbers.{decimal}
+use Rattle.rules.specs.Elements.{Finding}
 use Rattle.rules.specs.Segments.{Note}
 use Rattle.rules.specs.Response.{ak4}
-use Rattle.rules.specs.declared.Finding.{Finding}
 
 -- an AK3 by its id, position and codes, or an AK4
 pub data Event : Type 0 where

@@ -7,10 +7,9 @@ use lib.ListN.{drop}
 use lib.Seq.{slice}
 use Rattle.rules.specs.Base.{Bytes, ascii, null, if_then_else_}
 use Rattle.rules.specs.Cutting.{Segment, field, split, segments}
-use Rattle.rules.specs.Elements.{findings}
+use Rattle.rules.specs.Elements.{Finding, findings}
 use Rattle.rules.specs.Segments.{echoed}
 use Rattle.rules.specs.declared.Delimiters.{Delimiters}
-use Rattle.rules.specs.declared.Finding.{Finding}
 use Rattle.text.specs.Text.{part}
 use Rattle.tables.specs.Reading.{Guide, entryAt, idAt, idBytes, isMandatoryRow}
 use Rattle.findings.specs.Events.{Event, Line, Element}

@@ -12,10 +12,9 @@ use lib.ListN.{length, getD, take, drop, length-drop}
 use lib.Seq.{length-take-le, take-take, getD-take, getD-drop}
 use Rattle.rules.specs.Base.{Bytes, null, all, any, between, _⇒_, every, if_then_else_}
 use Rattle.rules.specs.Cutting.{Segment, split, field, valid, marks}
-use Rattle.rules.specs.Elements.{elementCode, present, placeCodes, found, findings, findingsFrom}
+use Rattle.rules.specs.Elements.{elementCode, present, placeCodes, Finding, found, surplusAt, findings, findingsFrom}
 use Rattle.rules.specs.Tables.{Row, Syntax}
 use Rattle.rules.specs.declared.Delimiters.{Delimiters}
-use Rattle.rules.specs.declared.Finding.{Finding}
 use Rattle.rules.proofs.Logic.{and-left, and-right, or-left}
 use Rattle.text.specs.Text.{indexWhere, indexOf, nextWhere, part}
 use Rattle.text.proofs.Loops.{and-true, and-false}
@@ -242,7 +241,7 @@ module _ (d : Delimiters) (notes : List Syntax) (s : Segment) where
   unfolding findingsFrom
   silent-row r rs n p = rw (p, ← place-null r n) (go (placeCodes d notes s r n))
     where
-      go : (codes : List ℕ) → null (map (found n r) codes ++ findingsFrom d notes s (n + 1) rs) ≡ null codes && silentBy (n + 1) rs
+      go : (codes : List ℕ) → null (map (found d s r n) codes ++ findingsFrom d notes s (n + 1) rs) ≡ null codes && silentBy (n + 1) rs
       go [] = refl
       go (c ∷ codes) = refl
 
@@ -268,7 +267,7 @@ unfolding findingsFrom
 silent-end d notes {e} {s} {n} end f = go (leb (length s) end) refl
   where
     go : (b : Bool) → leb (length s) end ≡ b
-        → null {A = Finding} (if ltb n (length (split e s)) then record { place = n; reference = 0; code = 3 } ∷ [] else []) ≡ b
+        → null {A = Finding} (if ltb n (length (split e s)) then surplusAt n ∷ [] else []) ≡ b
     go true h = let l : length s ≤ end = leb-true (length s) end h in rw (le-ltb n (length (split e s)) (field-none f (omega arith)))
     go false h = let l : end < length s = leb-false (length s) end h in rw (lt-ltb n (length (split e s)) (field-some f (omega arith)))
 

@@ -11,12 +11,11 @@ use lib.ListN.{length, take, getD}
 use lib.Seq.{slice}
 use Rattle.rules.specs.Base.{Bytes, _⇒_, ascii, null, all, between, isUpperOrDigit, every, if_then_else_}
 use Rattle.rules.specs.Cutting.{field, split}
-use Rattle.rules.specs.Elements.{findings}
+use Rattle.rules.specs.Elements.{Finding, findings}
 use Rattle.rules.specs.Numbers.{decimal}
 use Rattle.rules.specs.Response.{ak4}
 use Rattle.rules.specs.Segments.{echoed}
 use Rattle.rules.specs.declared.Delimiters.{Delimiters}
-use Rattle.rules.specs.declared.Finding.{Finding}
 use Rattle.rules.proofs.Logic.{and-left, and-right, all-head, all-tail}
 use Rattle.text.specs.Text.{indexOf, part}
 use Rattle.text.proofs.Digits.{between-true}
@@ -25,7 +24,7 @@ use Rattle.tables.specs.Rows.{filled}
 use Rattle.tables.specs.Reading.{Guide, entryAt, idAt, idBytes}
 use Rattle.tables.specs.declared.SegmentId.{SegmentId}
 use Rattle.tables.proofs.Numbers.{filled-take}
-use Rattle.elements.specs.Checks.{isSome, findingsAt, nextFound, findingsLeft, findingsFrom, start}
+use Rattle.elements.specs.Checks.{isSome, findingIn, findingBy, findingsAt, nextFound, findingsLeft, findingsFrom, start}
 use Rattle.elements.specs.declared.Cursor.{Cursor}
 use Rattle.elements.specs.declared.Found.{Found}
 use Rattle.elements.specs.declared.Found.the-variants.{Codes, Nothing}
@@ -113,15 +112,14 @@ module _ (id : Bytes) (n own : ℕ) (faulty : Bool) where
       go false b q = refl
 
 -- 3. The findings of a place, one by one.
-pub findings-two : (p : PlaceCodes)
-    → map ak4 (findingsAt p)
-    ≡ map ak4 (findingOf (record { place = p .place; reference = p .reference; code = p .own }))
-    ++ map ak4 (findingOf (record { place = p .place; reference = p .reference; code = p .noted }))
+pub findings-two : (s : Bytes) (p : PlaceCodes)
+    → map ak4 (findingsAt s p)
+    ≡ map ak4 (findingOf (findingIn s (findingBy p (p .own)))) ++ map ak4 (findingOf (findingIn s (findingBy p (p .noted))))
 unfolding findingsAt every
-findings-two p = go (eqb (p .own) 0) (eqb (p .noted) 0)
+findings-two s p = go (eqb (p .own) 0) (eqb (p .noted) 0)
   where
     one : ℕ → Finding
-    one c = record { place = p .place; reference = p .reference; code = c }
+    one c = findingIn s (findingBy p c)
 
     go : (a b : Bool)
         → map ak4 (map one (every ((not a ⇒ p .own) ∷ (not b ⇒ p .noted) ∷ [])))
@@ -147,8 +145,8 @@ module _ (d : Delimiters) (s : Bytes) (rows : Guide) where
 
   -- those of the place that is found, and then the rest
   pub found-more : {f : Found} {p : PlaceCodes} {c : Cursor} → f ≡ Codes p c
-      → map ak4 (findingsFrom d s rows f) ≡ map ak4 (findingsAt p) ++ map ak4 (findingsFrom d s rows (nextFound d s rows c))
-  found-more {f} {p} {c} e = rw (e, left-is d s rows c) (map-append ak4 (findingsAt p) _)
+      → map ak4 (findingsFrom d s rows f) ≡ map ak4 (findingsAt s p) ++ map ak4 (findingsFrom d s rows (nextFound d s rows c))
+  found-more {f} {p} {c} e = rw (e, left-is d s rows c) (map-append ak4 (findingsAt s p) _)
 
   module _ (own check : ℕ) (small : length rows < 9223372036854775808) where
     pub found-all : findingsFrom d s rows (foundBy d s rows own check) ≡ checked d rows own check (split (d .element) s)

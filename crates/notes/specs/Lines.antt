@@ -5,8 +5,8 @@ use mathlib.Core.List.{List, [], _∷_}
 use lib.Dec.{eqb}
 use lib.ListN.{length, getD}
 use Rattle.rules.specs.Base.{Bytes, all, between, isUpperOrDigit, if_then_else_}
+use Rattle.rules.specs.Elements.{Finding}
 use Rattle.rules.specs.declared.Delimiters.{Delimiters}
-use Rattle.rules.specs.declared.Finding.{Finding}
 use Rattle.tables.specs.Reading.{Guide, idAt}
 use Rattle.tables.specs.declared.SegmentId.{SegmentId}
 use Rattle.elements.specs.Checks.{nextFound, start}

@@ -10,7 +10,7 @@ ghost use Rattle.rules.specs.Numbers.{decimal};
 ghost use Rattle.rules.specs.Response.{fieldsOut, segmentOut, ak4};
 ghost use Rattle.rules.specs.Segments.{echoed};
 ghost use Rattle.tables.specs.Reading.{idBytes};
-ghost use Rattle.elements.specs.Checks.{findingsAt, findingsFrom};
+ghost use Rattle.elements.specs.Checks.{findingIn, findingsAt, findingsFrom};
 ghost use Rattle.findings.specs.Events as events;
 ghost use Rattle.findings.specs.Remaining as rest;
 ghost use Rattle.findings.specs.Steps.{codesOf, isChecked, start};
@@ -127,14 +127,16 @@ fn add_ak3(out: &mut [u8], n: usize, d: Delimiters, l: Line) -> usize
     writing::add_byte(out, n, d.terminator)
 }
 
-// AK4: place, reference number and code.
-fn add_ak4(out: &mut [u8], n: usize, d: Delimiters, f: Finding) -> usize
-    ensures { λ r. ⌜ From n (segmentOut d (ak4 f)) r (now (out .entry)) (now (out .exit)) ⌝ }
+// AK4 of a finding in a segment: place, reference number, code and echo.
+fn add_ak4(out: &mut [u8], n: usize, s: &[u8], d: Delimiters, f: Finding) -> usize
+    ensures { λ r. ⌜ From n (segmentOut d (ak4 (findingIn (now (s .entry)) f))) r (now (out .entry)) (now (out .exit)) ⌝ }
 {
     let n = writing::add_bytes(out, n, &rules::AK4);
     let n = writing::add_count(out, n, d, f.place as u64);
     let n = writing::add_optional(out, n, d, f.reference as u64);
     let n = writing::add_count(out, n, d, f.code as u64);
+    let echo = text::part(s, f.echo.start, f.echo.end);
+    let n = writing::add_trailing(out, n, d, echo);
     writing::add_byte(out, n, d.terminator)
 }
 
@@ -210,21 +212,21 @@ fn add_segment_line(
 }
 
 // An AK4, where there is a code.
-fn add_finding(out: &mut [u8], told: Told, d: Delimiters, f: Finding) -> Told
-    ensures { λ r. ⌜ Adds d (map ak4 (findingOf f)) told r (now (out .entry)) (now (out .exit)) ⌝ }
+fn add_finding(out: &mut [u8], told: Told, s: &[u8], d: Delimiters, f: Finding) -> Told
+    ensures { λ r. ⌜ Adds d (map ak4 (findingOf (findingIn (now (s .entry)) f))) told r (now (out .entry)) (now (out .exit)) ⌝ }
 {
     if f.code == 0 {
         return told;
     }
-    one_more(told, add_ak4(out, told.length, d, f))
+    one_more(told, add_ak4(out, told.length, s, d, f))
 }
 
-// The codes of a place.
-fn add_codes(out: &mut [u8], told: Told, d: Delimiters, c: PlaceCodes) -> Told
-    ensures { λ r. ⌜ Adds d (map ak4 (findingsAt c)) told r (now (out .entry)) (now (out .exit)) ⌝ }
+// An AK4 for each code of a place.
+fn add_codes(out: &mut [u8], told: Told, s: &[u8], d: Delimiters, c: PlaceCodes) -> Told
+    ensures { λ r. ⌜ Adds d (map ak4 (findingsAt (now (s .entry)) c)) told r (now (out .entry)) (now (out .exit)) ⌝ }
 {
-    let told = add_finding(out, told, d, Finding::new(c.place, c.reference, c.own));
-    add_finding(out, told, d, Finding::new(c.place, c.reference, c.noted))
+    let told = add_finding(out, told, s, d, c.finding(c.own));
+    add_finding(out, told, s, d, c.finding(c.noted))
 }
 
 // The findings of a segment from what is found on, an AK4 for each.
@@ -243,7 +245,7 @@ fn add_findings(
     loop {
         match next {
             Found::Codes(codes, cursor) => {
-                sum = add_codes(out, sum, d, codes);
+                sum = add_codes(out, sum, s, d, codes);
                 next = elements::next_found(s, d, guide, cursor);
             }
             Found::Nothing => {

@@ -1,4 +1,4 @@
--- Demand 2: what a buffer with a response tells of each set, and of their number. `Faces` carries it to both faces.
+-- Demand 2: what a buffer with a response tells of each set, what it shows of its elements, and how many sets there are. `Faces` carries it to both faces.
 use mathlib.Core.Path.{_≡_, ap, _∙_, subst⁻¹}
 use mathlib.Core.Logic.{_↔_}
 use mathlib.Core.List.{[], _++_}
@@ -7,13 +7,15 @@ use lib.ListN.{length, take, drop, getD}
 use Rattle.rules.specs.Base.{Bytes, keep}
 use Rattle.rules.specs.Cutting.{field, delimiters}
 use Rattle.rules.specs.Numbers.{decimal}
-use Rattle.rules.specs.Sets.{Set, SetReport, setReport, isST}
+use Rattle.rules.specs.Sets.{Set, segmentsOf, SetReport, setReport, isST}
 use Rattle.rules.specs.Groups.{tableIn}
 use Rattle.rules.specs.Response.{segmentOut, ak5, response}
 use Rattle.rules.specs.Damage.{groupIn, setsIn, reportIn, closing}
 use Rattle.rules.specs.declared.Call.{Call}
 use Rattle.rules.proofs.Damage.{response-parts}
 use Rattle.rules.proofs.Accepting.{Sound, accepting, before, report-at, four-codes, received-headers}
+use Rattle.rules.proofs.Echo.{Points, report-points}
+use Rattle.rules.proofs.Logic.{Each}
 use Rattle.rules.proofs.Placed.{headingOf, upTo, beyond, response-at, says-exactly}
 use Rattle.promises.proofs.Demands.{inParts}
 
@@ -35,6 +37,8 @@ pub record Tells (i lent : Bytes) (call : Call) (k : ℕ) (x : Set) (y : SetRepo
       ↔ Sound (delimiters i) (groupIn i .header) (take k (setsIn i)) (getD (setsIn i) k x)
   -- it has at most four codes
   pub few : length (reportAt i k y .codes) ≤ 4
+  -- the findings of each of its notes show elements of the segment at the note's position
+  pub echoes : Each (Points (delimiters i) 1 (segmentsOf (getD (setsIn i) k x))) (reportAt i k y .notes)
 
 -- what a buffer tells of the number of sets
 pub record Counts (i lent : Bytes) (call : Call) (left : Bytes) : Type 0 where
@@ -44,8 +48,8 @@ pub record Counts (i lent : Bytes) (call : Call) (left : Bytes) : Type 0 where
   pub ak903 : field (getD (closing i call) 0 []) 3 ≡ decimal (length (keep isST (groupIn i .body)))
 
 module _ (i lent : Bytes) (call : Call) (left : Bytes) (answered : left ≡ response i call ++ drop (length (response i call)) lent) where
-  -- The block of set k, and its verdict. Shut out: "accepted" for all, the first set's verdict for each, a test left out, a set's verdict in
-  -- another's block.
+  -- The block of set k, its verdict and its echoes. Shut out: "accepted" for all, the first set's verdict for each, a test left out, a set's
+  -- verdict in another's block; an echo cut at 98 or 100, under code 6, without its minus, or of the element beside it.
   pub tells : (k : ℕ) (x : Set) (y : SetReport) → k < length (setsIn i) → Tells i lent call k x y left
   tells k x y h =
       let d = delimiters i in
@@ -58,6 +62,7 @@ module _ (i lent : Bytes) (call : Call) (left : Bytes) (answered : left ≡ resp
         few =
             subst⁻¹ (λ (r : SetReport). length (r .codes) ≤ 4) (report-at d g k x y h)
             (four-codes d (tableIn (g .header) s) (before [] k (setsIn i)) s);
+        echoes = report-points d g k x y h;
       }
 
   -- The number of sets. Shut out: AK903 from thin air, from GE01, or of the sets that have a trailer only.

@@ -12,7 +12,7 @@ use Rattle.rules.specs.Base.{Bytes, ascii, null, any, same, between, first, eve
 use Rattle.rules.specs.Cutting.{Segment, field, delimiters}
 use Rattle.rules.specs.Numbers.{digits, value, isDay, isDate}
 use Rattle.rules.specs.Tables.{Row, Syntax, Table, row, O, directory, b1Rows, table006010, table004010}
-use Rattle.rules.specs.Elements.{spelled, elementCode, lacks, shutsOut, placeCodes, found, findingsFrom, findings}
+use Rattle.rules.specs.Elements.{spelled, elementCode, lacks, shutsOut, placeCodes, Finding, found, findingsFrom, findings}
 use Rattle.rules.specs.Segments.{Present, before, again, later, compared, entryAt, indexFrom, standing, ownCode, moved, skipped, findingsBy, missing, echoed, noted, segmentNote, walk, notesOf}
 use Rattle.rules.specs.Sets.{Set, SetReport}
 use Rattle.rules.specs.Refusals.{goodCall, goodGS, callRules, headRules, endRules, envelopeRules, trailerRules, headerRules, groupRules, answerRules, setRules, refusalRules, refusal}
@@ -20,7 +20,6 @@ use Rattle.rules.specs.Response.{segmentOut, ak5}
 use Rattle.rules.specs.Damage.{groupIn, setsIn}
 use Rattle.rules.specs.declared.Call.{Call}
 use Rattle.rules.specs.declared.Delimiters.{Delimiters}
-use Rattle.rules.specs.declared.Finding.{Finding}
 use Rattle.rules.specs.declared.Kind.the-variants.{DT}
 use Rattle.rules.proofs.Logic.{and-left, and-right, silent}
 use Rattle.rules.proofs.Accepting.{Chooses, six, four, Sound, accepting, none-given}
@@ -68,8 +67,8 @@ unfolding findingsFrom placeCodes
 row-clear d notes s n r rs e =
     let own = elementCode d r (field s n) in
     let rules = (eqb own 1 ⇒ 1) ∷ (lacks notes s n ⇒ 2) ∷ (between 4 9 own ⇒ own) ∷ (shutsOut notes s n ⇒ 10) ∷ [] in
-    let parts = append-eq-nil-iff {p = map (found n r) (every rules)} {q = findingsFrom d notes s (n + 1) rs} .0 e in
-    (none-given rules .0 (ap null (map-nil (found n r) (every rules) (parts .0))) .1 .1 .0, parts .1)
+    let parts = append-eq-nil-iff {p = map (found d s r n) (every rules)} {q = findingsFrom d notes s (n + 1) rs} .0 e in
+    (none-given rules .0 (ap null (map-nil (found d s r n) (every rules) (parts .0))) .1 .1 .0, parts .1)
 
 -- 2. A B1 without findings has a date in B103, or nothing.
 b1-dated : (d : Delimiters) (s : Segment) → null (field s 3) ≡ false → findingsFrom d [] s 1 b1Rows ≡ [] → isDate (field s 3) ≡ true

@@ -84,6 +84,7 @@ use Rattle.verdicts.proofs.set_codes.Reads as verdicts-set-codes
 use Rattle.verdicts.proofs.summary_of.Reads as verdicts-summary-of
 use Rattle.verdicts.proofs.closes.Reads as verdicts-closes
 use Rattle.elements.proofs.Found.is_some.Reads as elements-Found-is-some
+use Rattle.elements.proofs.PlaceCodes.finding.Reads as elements-PlaceCodes-finding
 use Rattle.elements.proofs.next_found.Reads as elements-next-found
 use Rattle.elements.proofs.first_found.Reads as elements-first-found
 use Rattle.elements.proofs.takes.Reads as elements-takes
@@ -104,6 +105,7 @@ use Rattle.writing.proofs.add_single.Reads as writing-add-single
 use Rattle.writing.proofs.add_count.Reads as writing-add-count
 use Rattle.writing.proofs.add_fixed.Reads as writing-add-fixed
 use Rattle.writing.proofs.add_optional.Reads as writing-add-optional
+use Rattle.writing.proofs.add_trailing.Reads as writing-add-trailing
 use Rattle.writing.proofs.add_codes.Reads as writing-add-codes
 use Rattle.writing.proofs.add_pair.Reads as writing-add-pair
 use Rattle.response_envelope.proofs.add_isa.Reads as response-envelope-add-isa
@@ -118,6 +120,7 @@ use Rattle.blocks.proofs.add_ak9.Reads as blocks-add-ak9
 use Rattle.blocks.proofs.add_se.Reads as blocks-add-se
 use Rattle.blocks.proofs.put_acceptance.Reads as blocks-put-acceptance
 use Rattle.notes.proofs.put_notes.Reads as notes-put-notes
+use Rattle.other_table.proofs.x12_other_table_notes.Reads as other-table-x12-other-table-notes
 use Rattle.acknowledgment.proofs.acknowledge.Reads as acknowledgment-acknowledge
 use Rattle.acknowledgment.proofs.x12_acknowledge.Reads as acknowledgment-x12-acknowledge
 use Rattle.exchange.proofs.exchange.Reads as exchange-exchange
@@ -364,6 +367,9 @@ verdicts-summary-of-once = ((λ κs a. tt), λ κs a r₁ r₂ s₁ s₂ p q. p 
 elements-Found-is-some-once : Determined elements-Found-is-some.Pre elements-Found-is-some.Post (λ κs r s. r)
 elements-Found-is-some-once = ((λ κs a. tt), λ κs a r₁ r₂ s₁ s₂ p q. p ∙ sym q)
 
+elements-PlaceCodes-finding-once : Determined elements-PlaceCodes-finding.Pre elements-PlaceCodes-finding.Post (λ κs r s. r)
+elements-PlaceCodes-finding-once = ((λ κs a. tt), λ κs a r₁ r₂ s₁ s₂ p q. p ∙ sym q)
+
 elements-next-found-once : Determined elements-next-found.Pre elements-next-found.Post (λ κs r s. r)
 elements-next-found-once = ((λ κs a. tt), λ κs a r₁ r₂ s₁ s₂ p q. p ∙ sym q)
 
@@ -426,6 +432,9 @@ writing-add-fixed-once = ((λ κs a. tt), λ κs a r₁ r₂ s₁ s₂ p q. from
 writing-add-optional-once : Determined writing-add-optional.Pre writing-add-optional.Post (λ κs r s. beside r (now (s .0)))
 writing-add-optional-once = ((λ κs a. tt), λ κs a r₁ r₂ s₁ s₂ p q. from-once p q)
 
+writing-add-trailing-once : Determined writing-add-trailing.Pre writing-add-trailing.Post (λ κs r s. beside r (now (s .0)))
+writing-add-trailing-once = ((λ κs a. tt), λ κs a r₁ r₂ s₁ s₂ p q. from-once p q)
+
 writing-add-codes-once : Determined writing-add-codes.Pre writing-add-codes.Post (λ κs r s. beside r (now (s .0)))
 writing-add-codes-once = ((λ κs a. tt), λ κs a r₁ r₂ s₁ s₂ p q. from-once p q)
 
@@ -467,6 +476,10 @@ blocks-add-se-once = ((λ κs a. tt), λ κs a r₁ r₂ s₁ s₂ p q. from-onc
 -- notes
 notes-put-notes-once : Determined notes-put-notes.Pre notes-put-notes.Post (λ κs r s. beside r (now (s .0)))
 notes-put-notes-once = ((λ κs a. tt), λ κs a r₁ r₂ s₁ s₂ p q. tells-once p q)
+
+-- other_table
+other-table-x12-other-table-notes-once : Determined other-table-x12-other-table-notes.Pre other-table-x12-other-table-notes.Post (λ κs r s. beside r (now (s .1 .0)))
+other-table-x12-other-table-notes-once = ((λ κs a. tt), λ κs a r₁ r₂ s₁ s₂ p q. wrote-once p q)
 
 -- acknowledgment
 acknowledgment-acknowledge-once : Determined acknowledgment-acknowledge.Pre acknowledgment-acknowledge.Post (λ κs r s. beside r (now (s .1 .0)))

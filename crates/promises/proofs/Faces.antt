@@ -48,8 +48,9 @@ pub record Promised (i lent : Bytes) (call : Call) (o : Outcome) : Type 0 where
   pub trim : o .number ≡ 0 → all isTrim (respond i (groupIn i) call) ≡ true
   -- none of them is an AK4 with the code 9 or 10: shut out is a program that tells of a bad date by 9
   pub unused : o .number ≡ 0 → all isSpared (respond i (groupIn i) call) ≡ true
-  -- an answer has the block of set k in its place, and its AK5 says A exactly when the set is sound: shut out are "accepted" for all, the first
-  -- set's verdict for each, and a test left out
+  -- an answer has the block of set k in its place; its AK5 says A exactly when the set is sound, and its AK4 show of the elements that they name
+  -- what they may: shut out are "accepted" for all, the first set's verdict for each, a test left out, an echo that is cut at 98 or 100, one under
+  -- code 6, one without its minus, and one of the element beside it
   pub sets : o .number ≡ 0 → (k : ℕ) (x : Set) (y : SetReport) → k < length (setsIn i) → Tells i lent call k x y (o .buffer)
   -- an answer says in AK903 how many ST segments the group has: shut out is AK903 from thin air
   pub counts : o .number ≡ 0 → Counts i lent call (o .buffer)

@@ -11,15 +11,15 @@ use Rattle.rules.specs.Base.{Bytes, ascii, null, all, last, isUpperOrDigit, kee
 use Rattle.rules.specs.Cutting.{Segment, field, delimiters, text}
 use Rattle.rules.specs.Numbers.{digits, isDate, isTime, padded, decimal}
 use Rattle.rules.specs.Tables.{Table, Entry}
+use Rattle.rules.specs.Elements.{Finding}
 use Rattle.rules.specs.Segments.{Note, missing, echoed, noted, segmentNote, walk, notesOf}
 use Rattle.rules.specs.Sets.{Set, controlOf, notesIn, SetReport, setReport, accepted}
 use Rattle.rules.specs.Groups.{Group, sets, tableIn, setReports, GroupReport, groupReport}
 use Rattle.rules.specs.Refusals.{goodGS, goodST, callRules, headRules, endRules, envelopeRules, trailerRules, headerRules, groupRules, answerRules, setRules, refusalRules, refusal}
-use Rattle.rules.specs.Response.{ak4, ak3, ak3s, ak2, ak5, block, blocks, ak1, ak9, stOut, seOut, told, transactionSet, isaOut, gsOut, geOut, ieaOut, respond}
+use Rattle.rules.specs.Response.{trailing, ak4, ak3, ak3s, ak2, ak5, block, blocks, ak1, ak9, stOut, seOut, told, transactionSet, isaOut, gsOut, geOut, ieaOut, respond}
 use Rattle.rules.specs.Damage.{groupIn, reportIn}
 use Rattle.rules.specs.declared.Call.{Call}
 use Rattle.rules.specs.declared.Delimiters.{Delimiters}
-use Rattle.rules.specs.declared.Finding.{Finding}
 use Rattle.rules.proofs.Logic.{and-left, and-right, all-head, all-tail, all-cons, all-append, last-all, silent}
 use Rattle.rules.proofs.Lengths.{either}
 use Rattle.promises.proofs.Numerals.{decimal-some}
@@ -60,10 +60,15 @@ unfolding padded
 padded-filled n = append-filled (padded 8 (n / 10)) (48 + n % 10)
 
 -- 3. The segments, one after the other.
+trailing-trim : (first e : Bytes) → isFilled first ≡ true → isFilled (last first (trailing e)) ≡ true
+unfolding trailing last
+trailing-trim first [] h = h
+trailing-trim first (b ∷ e) h = refl
+
 ak4s-trim : (fs : List Finding) → all isTrim (map ak4 fs) ≡ true
 unfolding all ak4 last
 ak4s-trim [] = refl
-ak4s-trim (f ∷ fs) = rw (decimal-some (f .code)) (ak4s-trim fs)
+ak4s-trim (f ∷ fs) = rw (trailing-trim (decimal (f .code)) (f .echo) (number-filled (f .code))) (ak4s-trim fs)
 
 codes-trim : (first : Bytes) (ns : List ℕ) → isFilled first ≡ true → isFilled (last first (map decimal ns)) ≡ true
 codes-trim first ns e = last-all isFilled first (map decimal ns) e (numbers-filled ns)

@@ -1,4 +1,4 @@
--- The response to an interchange of at most 65,536 bytes, refused or not, has less than 2^40 bytes, over tables within a named limit.
+-- The response to an interchange of at most 65,536 bytes, refused or not, has less than 2^42 bytes, over tables within a named limit.
 use Prim.Native.Nat.{ℕ, zero, suc, _+_, _*_, _≤_, _<_}
 use mathlib.Core.Path.{_≡_, refl}
 use mathlib.Core.Bool.{Bool, true, false, _&&_, _||_, not}
@@ -6,20 +6,20 @@ use mathlib.Core.List.{List, [], _∷_, _++_, map}
 use mathlib.Core.Option.{Option, none, some}
 use native.Mathlib.Omega.{arith}
 use lib.Dec.{leb, ltb, eqb}
-use lib.ListN.{length, take, drop, getD, length-append, length-map}
+use lib.ListN.{length, take, drop, getD, length-append}
 use borrow.Author.Tests.{leb-true}
 use Rattle.rules.specs.Base.{Bytes, Rule, _⇒_, every, null, all, keep, front, last, isNone, listed, isUpperOrDigit, ascii, same, if_then_else_}
 use Rattle.rules.specs.Cutting.{Segment, field, delimiters, cutAt, split, pieces, segments}
 use Rattle.rules.specs.Tables.{Row, Syntax, Entry, Table, editionTable, setTable, table006010, table004010, stRows, stRows6, seRows, b1Rows, l11Rows, k1Rows}
-use Rattle.rules.specs.Elements.{placeCodes, findingsFrom, findings}
+use Rattle.rules.specs.Elements.{elementCode, placeCodes, Finding, found, findingsFrom, findings}
 use Rattle.rules.specs.Segments.{Note, Present, Standing, unknown, unlisted, before, again, later, noEntry, entryAt, standing, ownCode, moved, findingsBy, skipped, missing, echoed, noted, segmentNote, walk, notesOf}
 use Rattle.rules.specs.Sets.{Set, isST, isSE, bodyOf, trailerOf, setsOf, controlOf, notesIn, setCodes, setReport}
 use Rattle.rules.specs.Groups.{Group, isGE, groupWith, groupOf, supported, edition, tableIn, setReports, groupCodes, verdict, acceptedIn, groupReport}
 use Rattle.rules.specs.Response.{fieldsOut, segmentOut, out, ak3s, block, blocks, stOut, seOut, told, transactionSet, geOut, ieaOut, respond, response}
 use Rattle.rules.specs.declared.Call.{Call}
 use Rattle.rules.specs.declared.Delimiters.{Delimiters}
-use Rattle.rules.specs.declared.Finding.{Finding}
-use Rattle.rules.proofs.Lengths.{either, padded-length, decimal-short, every-short, out-nil, out-cons, length-out-append, field-short, ak3-short, ak3s-append, ak2-short, ak5-short, ak1-short, ak9-short, isaOut-short, gsOut-short}
+use Rattle.rules.proofs.Echo.{echo-short}
+use Rattle.rules.proofs.Lengths.{either, padded-length, decimal-short, every-short, weight, weight-append, out-nil, out-cons, length-out-append, field-short, ak3-short, ak3s-append, ak2-short, ak5-short, ak1-short, ak9-short, isaOut-short, gsOut-short}
 
 -- 1. The limit of a table.
 -- the number of entries, of the bytes of their ids and of their rows, together
@@ -86,20 +86,39 @@ placeCodes-short : (d : Delimiters) (notes : List Syntax) (s : Segment) (r : Row
 unfolding placeCodes
 placeCodes-short d notes s r n = every-short _
 
-findingsFrom-short : (d : Delimiters) (notes : List Syntax) (s : Segment) (n : ℕ) (rs : List Row)
-    → length (findingsFrom d notes s n rs) ≤ 4 * length rs + 1
-unfolding findingsFrom
-findingsFrom-short d notes s n [] =
-    either (λ (fs : List Finding). length fs ≤ 1) (ltb n (length s)) (omega arith) (omega arith)
-findingsFrom-short d notes s n (r ∷ rs) =
-    simp (length-append, length-map) (omega (arith, placeCodes-short d notes s r n, findingsFrom-short d notes s (n + 1) rs))
+-- the most bytes of the AK4 of a finding
+abbrev perFinding : ℕ
+perFinding = 167
 
-entry-short : (d : Delimiters) (t : Table) (k : ℕ) (s : Segment) → length (findings d (entryAt t k) s) ≤ 4 * load (t .entries) + 1
+found-short : (d : Delimiters) (s : Segment) (r : Row) (n : ℕ) (cs : List ℕ) → weight (map (found d s r n) cs) ≤ perFinding * length cs
+unfolding weight
+found-short d s r n [] = omega arith
+found-short d s r n (c ∷ cs) =
+    omega (arith, echo-short c (elementCode d r (field s n)) (field s n), found-short d s r n cs)
+
+findingsFrom-short : (d : Delimiters) (notes : List Syntax) (s : Segment) (n : ℕ) (rs : List Row)
+    → weight (findingsFrom d notes s n rs) ≤ perFinding * (4 * length rs + 1)
+unfolding findingsFrom weight
+findingsFrom-short d notes s n [] =
+    either (λ (fs : List Finding). weight fs ≤ perFinding) (ltb n (length s)) (omega arith) (omega arith)
+findingsFrom-short d notes s n (r ∷ rs) =
+    simp weight-append
+    (omega (
+      arith,
+      found-short d s r n (placeCodes d notes s r n),
+      placeCodes-short d notes s r n,
+      findingsFrom-short d notes s (n + 1) rs,
+    ))
+
+entry-short : (d : Delimiters) (t : Table) (k : ℕ) (s : Segment)
+    → weight (findings d (entryAt t k) s) ≤ perFinding * (4 * load (t .entries) + 1)
 unfolding findings
 entry-short d t k s =
     omega (arith, findingsFrom-short d (entryAt t k .notes) s 1 (entryAt t k .rows), entry-rows k (t .entries))
 
-findingsBy-short : (d : Delimiters) (t : Table) (st : Standing) (s : Segment) → length (findingsBy d t st s) ≤ 4 * load (t .entries) + 1
+findingsBy-short : (d : Delimiters) (t : Table) (st : Standing) (s : Segment)
+    → weight (findingsBy d t st s) ≤ perFinding * (4 * load (t .entries) + 1)
+unfolding weight
 findingsBy-short d t unknown s = omega arith
 findingsBy-short d t unlisted s = omega arith
 findingsBy-short d t (before k) s = entry-short d t k s
@@ -118,11 +137,11 @@ echoed-short id = pick (leb 2 (length id)) (leb (length id) 3) (all isUpperOrDig
 
 -- what a segment of a set can cause, in bytes
 abbrev perSegment : ℕ
-perSegment = 1310000
+perSegment = 2950000
 
 module _ (d : Delimiters) where
   missing-short : (n : ℕ) (es : List Entry) → length (out d (ak3s (missing n es))) ≤ 50 * load es
-  unfolding out ak3s missing keep load
+  unfolding out ak3s missing keep load weight
   missing-short n [] = omega arith
   missing-short n (e ∷ es) = pick (e .mandatory) (keep (λ e. e .mandatory) es) (missing-short n es)
     where
@@ -135,20 +154,20 @@ module _ (d : Delimiters) where
       pick false l h = omega arith
 
   noted-short : (id : Bytes) (n : ℕ) (cs : List ℕ) (fs : List Finding) → length id ≤ 3 → length cs ≤ 2
-      → length (out d (ak3s (noted id n cs fs))) ≤ 73 + 67 * length fs
+      → length (out d (ak3s (noted id n cs fs))) ≤ 73 + weight fs
   unfolding ak3s out
   noted-short id n [] fs h k = omega arith
   noted-short id n (c ∷ cs) fs h k =
       simp length-out-append (omega (arith, ak3-short d (record { id = id; position = n; codes = c ∷ cs; findings = fs })))
 
-  segmentNote-short : (n c : ℕ) (id : Bytes) (fs : List Finding) → length (out d (ak3s (segmentNote n c id fs))) ≤ 73 + 67 * length fs
+  segmentNote-short : (n c : ℕ) (id : Bytes) (fs : List Finding) → length (out d (ak3s (segmentNote n c id fs))) ≤ 73 + weight fs
   unfolding segmentNote
   segmentNote-short n c id fs =
       let rules : List Rule = (not (eqb c 0) ⇒ c) ∷ (not (null fs) ⇒ 8) ∷ [] in
       noted-short (echoed id) n (every rules) fs (echoed-short id) (every-short rules)
 
   module _ (t : Table) (limited : Limited t) (closed : Bool) where
-    -- 50 bytes for each entry passed over and byte of its id, and 67 for each finding
+    -- 50 bytes for each entry passed over and byte of its id, and 167 for each finding
     walk-short : (p : Present) (n : ℕ) (ss : List Segment) → length (out d (ak3s (walk d t closed p n ss))) ≤ perSegment * (length ss + 1)
     unfolding walk out ak3s
     walk-short p n [] =
@@ -171,7 +190,7 @@ module _ (d : Delimiters) where
 -- 4. The sets of a group.
 -- what a set can cause besides: it has two segments more than its body, and may lack its trailer
 abbrev perSet : ℕ
-perSet = 3930300
+perSet = 8850300
 
 listed-short : (o : Option Segment) → length (listed o) ≤ 1
 listed-short none = omega arith
@@ -318,7 +337,7 @@ module _ (d : Delimiters) where
       simp (length-out-append d, out-cons d, out-nil d, length-append)
       (omega (arith, told-short st02 g, decimal-short (length (told st02 (groupReport d g)) + 1)))
 
-pub response-bound : (i : Bytes) (call : Call) → length i ≤ 65536 → length (response i call) < 1099511627776
+pub response-bound : (i : Bytes) (call : Call) → length i ≤ 65536 → length (response i call) < 4398046511104
 unfolding response respond geOut ieaOut fieldsOut
 response-bound i call h =
     let d = delimiters i in

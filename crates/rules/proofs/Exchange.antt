@@ -30,7 +30,7 @@ sent =
     ascii "ISA*00*          *00*          *ZZ*BROKERB        *ZZ*CARRIERA       *240315*0930*U*00401*000000077*0*T*>~"
     ++ ascii "GS*FA*BROKB*CARRA*20240315*0930*77*X*004010~"
     ++ ascii "ST*997*0001~AK1*GF*42~AK2*990*0001~AK5*A~"
-    ++ ascii "AK2*990*0002~AK3*B1*2**8~AK4*1*140*5~AK4*3*373*8~AK4*4*558*7~"
+    ++ ascii "AK2*990*0002~AK3*B1*2**8~AK4*1*140*5*ABCDE~AK4*3*373*8*20241315~AK4*4*558*7*Q~"
     ++ ascii "AK3*L11*3**8~AK4*1*127*2~AK5*R*4*5~"
     ++ ascii "AK9*P*2*2*1~SE*14*0001~GE*1*77~IEA*1*000000077~"
 
@@ -58,17 +58,17 @@ exchange room =
     let a = answer received room sampleCall in
     outcome a (buffer a (response received sampleCall) (replicate room 7))
 
--- the response has 334 bytes: in a longer buffer the rest is as lent
-pub answered : exchange 400 ≡ record { number = 0; size = 334; buffer = sent ++ replicate 66 7 }
+-- the response has 351 bytes: in a longer buffer the rest is as lent
+pub answered : exchange 400 ≡ record { number = 0; size = 351; buffer = sent ++ replicate 49 7 }
 unfolding everything exchange received sent
 answered = refl
 
-pub fits-exactly : exchange 334 ≡ record { number = 0; size = 334; buffer = sent }
+pub fits-exactly : exchange 351 ≡ record { number = 0; size = 351; buffer = sent }
 unfolding everything exchange received sent
 fits-exactly = refl
 
 -- one byte too short: the length needed, and the buffer as lent
-pub too-short : exchange 333 ≡ record { number = 14; size = 334; buffer = replicate 333 7 }
+pub too-short : exchange 350 ≡ record { number = 14; size = 351; buffer = replicate 350 7 }
 unfolding everything exchange received sent
 too-short = refl
 

@@ -9,13 +9,13 @@ use lib.ListN.{length, length-append, length-drop, length-take}
 use Rattle.rules.specs.Base.{Bytes, Rule, _⇒_, every, ascii, if_then_else_}
 use Rattle.rules.specs.Cutting.{Segment, field, separators, fieldsAt, isa}
 use Rattle.rules.specs.Numbers.{padded, digitsOf, decimal}
+use Rattle.rules.specs.Elements.{Finding}
 use Rattle.rules.specs.Segments.{Note}
 use Rattle.rules.specs.Sets.{SetReport, accepted}
 use Rattle.rules.specs.Groups.{GroupReport}
-use Rattle.rules.specs.Response.{fieldsOut, segmentOut, out, ak4, ak3, ak3s, ak2, ak5, block, blocks, ak1, ak9, stOut, seOut, told, transactionSet, isaOut, gsOut}
+use Rattle.rules.specs.Response.{fieldsOut, segmentOut, out, trailing, ak4, ak3, ak3s, ak2, ak5, block, blocks, ak1, ak9, stOut, seOut, told, transactionSet, isaOut, gsOut}
 use Rattle.rules.specs.declared.Call.{Call}
 use Rattle.rules.specs.declared.Delimiters.{Delimiters}
-use Rattle.rules.specs.declared.Finding.{Finding}
 
 -- what holds of both branches
 pub either : {A : Type 0} (P : A → Type 0) (b : Bool) {x y : A} → P x → P y → P (if b then x else y)
@@ -50,6 +50,16 @@ every-short [] = omega arith
 every-short ((true ⇒ n) ∷ rs) = omega (arith, every-short rs)
 every-short ((false ⇒ n) ∷ rs) = omega (arith, every-short rs)
 
+-- room for the AK4 of findings: for each 67 bytes, a separator and the echo
+unfoldable pub weight : List Finding → ℕ
+weight [] = 0
+weight (f ∷ fs) = 68 + length (f .echo) + weight fs
+
+pub weight-append : (a b : List Finding) → weight (a ++ b) ≡ weight a + weight b
+unfolding weight
+weight-append [] b = omega arith
+weight-append (f ∷ a) b = omega (arith, weight-append a b)
+
 module _ (d : Delimiters) where
   codes-short : (cs : List ℕ) → length (fieldsOut d (map decimal cs)) ≤ 21 * length cs
   unfolding fieldsOut
@@ -82,7 +92,12 @@ module _ (d : Delimiters) where
   field-short (f ∷ fs) (suc n) = simp length-append (omega (arith, fieldsOut-short fs n))
 
   -- 3. AK1 to AK9.
-  ak4-short : (f : Finding) → length (segmentOut d (ak4 f)) ≤ 67
+  trailing-short : (e : Bytes) → length (fieldsOut d (trailing e)) ≤ 1 + length e
+  unfolding fieldsOut trailing
+  trailing-short [] = omega arith
+  trailing-short (b ∷ e) = simp length-append (omega arith)
+
+  ak4-short : (f : Finding) → length (segmentOut d (ak4 f)) ≤ 68 + length (f .echo)
   unfolding ak4 fieldsOut
   ak4-short f =
       simp length-append
@@ -92,14 +107,15 @@ module _ (d : Delimiters) where
         if-short (eqb (f .reference) 0) [] (decimal (f .reference)),
         decimal-short (f .reference),
         decimal-short (f .code),
+        trailing-short (f .echo),
       ))
 
-  ak4s-short : (fs : List Finding) → length (out d (map ak4 fs)) ≤ 67 * length fs
-  unfolding out
+  ak4s-short : (fs : List Finding) → length (out d (map ak4 fs)) ≤ weight fs
+  unfolding out weight
   ak4s-short [] = omega arith
   ak4s-short (f ∷ fs) = simp length-append (omega (arith, ak4-short f, ak4s-short fs))
 
-  pub ak3-short : (n : Note) → length (out d (ak3 n)) ≤ 28 + length (n .id) + 21 * length (n .codes) + 67 * length (n .findings)
+  pub ak3-short : (n : Note) → length (out d (ak3 n)) ≤ 28 + length (n .id) + 21 * length (n .codes) + weight (n .findings)
   unfolding out ak3 fieldsOut
   ak3-short n =
       simp length-append

@@ -13,4 +13,5 @@ pub mod Marked
 pub mod Tempting
 pub mod Accepting
 pub mod Unused
+pub mod Echo
 pub mod Placed

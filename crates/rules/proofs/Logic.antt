@@ -1,14 +1,14 @@
 -- Laws of tests, lists and rules that hold whatever they are about.
 use mathlib.Core.Path.{_≡_, refl, ap, subst⁻¹}
 use mathlib.Core.Bool.{Bool, true, false, _&&_, _||_, not, false≢true, true≢false}
-use mathlib.Core.List.{List, [], _∷_, _++_}
+use mathlib.Core.List.{List, [], _∷_, _++_, map}
 use Prim.Native.Nat.{ℕ, zero, suc, _≤_, _<_}
 use native.Mathlib.Nat.{not-suc-le-zero, le-of-suc-le-suc}
 use native.Mathlib.Omega.{arith}
 use borrow.Author.Tests.{eqb-true, leb-true}
 use lib.Dec.{T, T-not, leb, eqb}
 use lib.ListN.{length, getD}
-use Rattle.rules.specs.Base.{Bytes, same, all, front, last, Rule, _⇒_, first}
+use Rattle.rules.specs.Base.{Bytes, same, all, front, last, Rule, _⇒_, first, every}
 
 pub and-left : (a b : Bool) → a && b ≡ true → a ≡ true
 and-left true b e = refl
@@ -151,3 +151,34 @@ unfolding first
 first-low most [] e = omega arith
 first-low most ((true ⇒ n) ∷ rs) e = leb-true n most (and-left (leb n most) (low most rs) e)
 first-low most ((false ⇒ n) ∷ rs) e = first-low most rs (and-right (leb n most) (low most rs) e)
+
+-- 3. What holds of each of a list.
+module _ {A : Type 0} (P : A → Type 0) where
+  unfoldable pub Each : List A → Type 0
+  Each [] = Unit {0}
+  Each (x ∷ xs) = P x × Each xs
+
+  pub each-none : Each []
+  unfolding Each
+  each-none = tt
+
+  pub each-append : (xs ys : List A) → Each xs → Each ys → Each (xs ++ ys)
+  unfolding Each
+  each-append [] ys h k = k
+  each-append (x ∷ xs) ys h k = (h .0, each-append xs ys (h .1) k)
+
+pub each-map : {A B : Type 0} (P : B → Type 0) (f : A → B) (xs : List A) → Each (λ x. P (f x)) xs → Each P (map f xs)
+unfolding Each
+each-map P f [] h = tt
+each-map P f (x ∷ xs) h = (h .0, each-map P f xs (h .1))
+
+-- of each number that a rule may give
+abbrev pub Given : (ℕ → Type 0) → List Rule → Type 0
+Given P [] = Unit {0}
+Given P ((b ⇒ n) ∷ rs) = (b ≡ true → P n) × Given P rs
+
+pub every-given : (P : ℕ → Type 0) (rs : List Rule) → Given P rs → Each P (every rs)
+unfolding every Each
+every-given P [] h = tt
+every-given P ((true ⇒ n) ∷ rs) h = (h .0 refl, every-given P rs (h .1))
+every-given P ((false ⇒ n) ∷ rs) h = every-given P rs (h .1)

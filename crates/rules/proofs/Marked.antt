@@ -18,15 +18,15 @@ pub data Marked : Type 0 where
 -- the table
 unfoldable pub marked : List Marked
 marked =
-    ("B1*A~SE*3*0001~" gives "AK3*B1*2**8~AK4*1*140*4~AK5*R*5~AK9*R*1*1*0~SE*8*0001~") ∷  -- P1
+    ("B1*A~SE*3*0001~" gives "AK3*B1*2**8~AK4*1*140*4*A~AK5*R*5~AK9*R*1*1*0~SE*8*0001~") ∷  -- P1
     ("B1*AB~SE*3*0001~" gives "AK5*A~AK9*A*1*1*1~SE*6*0001~") ∷  -- P2
     ("B1*ABCD~SE*3*0001~" gives "AK5*A~AK9*A*1*1*1~SE*6*0001~") ∷
-    ("B1*ABCDE~SE*3*0001~" gives "AK3*B1*2**8~AK4*1*140*5~AK5*R*5~AK9*R*1*1*0~SE*8*0001~") ∷  -- P3
+    ("B1*ABCDE~SE*3*0001~" gives "AK3*B1*2**8~AK4*1*140*5*ABCDE~AK5*R*5~AK9*R*1*1*0~SE*8*0001~") ∷  -- P3
     ("B1*AB~L11~SE*4*0001~" gives "AK3*L11*3**8~AK4*1*127*2~AK5*R*5~AK9*R*1*1*0~SE*8*0001~") ∷  -- P4
     ("B1*AB~L11***T~SE*4*0001~" gives "AK5*A~AK9*A*1*1*1~SE*6*0001~") ∷  -- P5
     ("B1*AB~L11*X~SE*4*0001~" gives "AK3*L11*3**8~AK4*2*128*2~AK5*R*5~AK9*R*1*1*0~SE*8*0001~") ∷  -- P6
     ("B1*AB**20241231~SE*3*0001~" gives "AK5*A~AK9*A*1*1*1~SE*6*0001~") ∷  -- P7
-    ("B1*AB**20240100~SE*3*0001~" gives "AK3*B1*2**8~AK4*3*373*8~AK5*R*5~AK9*R*1*1*0~SE*8*0001~") ∷
+    ("B1*AB**20240100~SE*3*0001~" gives "AK3*B1*2**8~AK4*3*373*8*20240100~AK5*R*5~AK9*R*1*1*0~SE*8*0001~") ∷
     ("B1*AB~SE*-3*0001~" gives "AK5*R*4~AK9*R*1*1*0~SE*6*0001~") ∷  -- P8
     ("B1*AB~SE*003*0001~" gives "AK5*A~AK9*A*1*1*1~SE*6*0001~") ∷  -- P9
     ("SE*2*0001~" gives "AK3*B1*2**3~AK5*R*5~AK9*R*1*1*0~SE*7*0001~") ∷  -- P10

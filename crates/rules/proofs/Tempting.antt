@@ -23,7 +23,7 @@ groups =
     answers "AK2*990*0001~AK3*B1*4**7~AK3*L11*5**5~AK5*R*5~AK9*R*1*1*0~SE*8*0001~") ∷
     -- positions start anew in each set
     ("ST*990*0001~B1*A~SE*3*0001~ST*990*0002~B1*A~SE*3*0002~GE*2*42~"
-    answers "AK2*990*0001~AK3*B1*2**8~AK4*1*140*4~AK5*R*5~AK2*990*0002~AK3*B1*2**8~AK4*1*140*4~AK5*R*5~AK9*R*2*2*0~SE*12*0001~") ∷
+    answers "AK2*990*0001~AK3*B1*2**8~AK4*1*140*4*A~AK5*R*5~AK2*990*0002~AK3*B1*2**8~AK4*1*140*4*A~AK5*R*5~AK9*R*2*2*0~SE*12*0001~") ∷
     -- L11's code 2 stands once
     ("ST*990*0001~B1*AB~L11**CN~SE*4*0001~GE*1*42~"
     answers "AK2*990*0001~AK3*L11*3**8~AK4*1*127*2~AK5*R*5~AK9*R*1*1*0~SE*8*0001~") ∷

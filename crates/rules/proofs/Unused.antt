@@ -13,14 +13,13 @@ use Rattle.rules.specs.Base.{Bytes, Rule, _⇒_, first, every, null, all
 use Rattle.rules.specs.Cutting.{Segment, field, isNamed, delimiters}
 use Rattle.rules.specs.Numbers.{digitsOf, decimal}
 use Rattle.rules.specs.Tables.{Row, Syntax, Entry, Table, stRows, stRows6, seRows, b1Rows, l11Rows, l11Notes, k1Rows, table006010, table004010, editionTable, setTable}
-use Rattle.rules.specs.Elements.{isTM, elementCode, excluded, shutsOut, placeCodes, found, findingsFrom, findings}
+use Rattle.rules.specs.Elements.{isTM, elementCode, excluded, shutsOut, placeCodes, Finding, found, findingsFrom, findings}
 use Rattle.rules.specs.Segments.{Note, Present, Standing, unknown, unlisted, before, again, later, noEntry, entryAt, standing, moved, findingsBy, missing, echoed, noted, segmentNote, walk, notesOf}
 use Rattle.rules.specs.Sets.{Set, controlOf, notesIn, SetReport, setReport}
 use Rattle.rules.specs.Groups.{Group, sets, supported, edition, tableIn, setReports, groupReport}
 use Rattle.rules.specs.Response.{ak4, ak3, ak3s, ak2, ak5, block, blocks, ak1, ak9, stOut, seOut, told, transactionSet, isaOut, gsOut, geOut, ieaOut, respond}
 use Rattle.rules.specs.declared.Call.{Call}
 use Rattle.rules.specs.declared.Delimiters.{Delimiters}
-use Rattle.rules.specs.declared.Finding.{Finding}
 use Rattle.rules.specs.declared.Relation.{Relation}
 use Rattle.rules.specs.declared.Relation.the-variants.{P, R, E, C, L}
 use Rattle.rules.proofs.Logic.{and-left, and-right, all-head, all-tail, all-append}
@@ -80,10 +79,11 @@ notes-admit (c ∷ cs) h s n =
     let p : Syntax → Bool = λ c. not (isE (c .relation)) in
     rw (relation-admits (c .relation) (all-head p c cs h) s (c .places) n) (notes-admit cs (all-tail p c cs h) s n)
 
-found-used : (n : ℕ) (r : Row) (cs : List ℕ) → all isUsed cs ≡ true → all (λ f. isUsed (f .code)) (map (found n r) cs) ≡ true
+found-used : (d : Delimiters) (s : Segment) (r : Row) (n : ℕ) (cs : List ℕ) → all isUsed cs ≡ true
+    → all (λ f. isUsed (f .code)) (map (found d s r n) cs) ≡ true
 unfolding all
-found-used n r [] h = refl
-found-used n r (c ∷ cs) h = rw (all-head isUsed c cs h) (found-used n r cs (all-tail isUsed c cs h))
+found-used d s r n [] h = refl
+found-used d s r n (c ∷ cs) h = rw (all-head isUsed c cs h) (found-used d s r n cs (all-tail isUsed c cs h))
 
 module _ (d : Delimiters) (notes : List Syntax) (s : Segment) (h : all (λ c. not (isE (c .relation))) notes ≡ true) where
   place-used : (r : Row) (n : ℕ) → not (isTM (r .kind)) ≡ true → all isUsed (placeCodes d notes s r n) ≡ true
@@ -98,8 +98,8 @@ module _ (d : Delimiters) (notes : List Syntax) (s : Segment) (h : all (λ c. no
   findings-used n [] k = either (λ (fs : List Finding). all (λ f. isUsed (f .code)) fs ≡ true) (ltb n (length s)) refl refl
   findings-used n (r ∷ rs) k =
       let p : Row → Bool = λ r. not (isTM (r .kind)) in
-      all-append (λ f. isUsed (f .code)) (map (found n r) (placeCodes d notes s r n)) (findingsFrom d notes s (n + 1) rs)
-      (found-used n r (placeCodes d notes s r n) (place-used r n (all-head p r rs k)))
+      all-append (λ f. isUsed (f .code)) (map (found d s r n) (placeCodes d notes s r n)) (findingsFrom d notes s (n + 1) rs)
+      (found-used d s r n (placeCodes d notes s r n) (place-used r n (all-head p r rs k)))
       (findings-used (n + 1) rs (all-tail p r rs k))
 
 -- By an entry without times and without notes E no finding has the code 9 or 10. A definition that tests a date as a time is shut out.

@@ -1,15 +1,14 @@
 -- "Notes on elements (AK4)": the findings of a segment by its entry.
-use Prim.Native.Nat.{ℕ, suc, _+_}
+use Prim.Native.Nat.{ℕ, _+_}
 use mathlib.Core.Bool.{Bool, true, false, _&&_, _||_, not}
 use mathlib.Core.List.{List, [], _∷_, _++_, map}
 use lib.Dec.{ltb, eqb}
-use lib.ListN.{length}
-use Rattle.rules.specs.Base.{Bytes, Rule, _⇒_, first, every, null, all, any, between, isDigit, member, if_then_else_}
+use lib.ListN.{length, take}
+use Rattle.rules.specs.Base.{Bytes, _⇒_, first, every, null, all, any, between, isDigit, member, if_then_else_}
 use Rattle.rules.specs.Cutting.{Segment, field, valid}
 use Rattle.rules.specs.Numbers.{isDate, isTime}
 use Rattle.rules.specs.Tables.{Row, Syntax, Entry}
 use Rattle.rules.specs.declared.Delimiters.{Delimiters}
-use Rattle.rules.specs.declared.Finding.{Finding}
 use Rattle.rules.specs.declared.Kind.{Kind}
 use Rattle.rules.specs.declared.Kind.the-variants.{AN, ID, N0, DT, TM}
 use Rattle.rules.specs.declared.Relation.{Relation}
@@ -102,7 +101,31 @@ lacks notes s n = any (λ c. lacking s (c .relation) (c .places) n) notes
 unfoldable pub shutsOut : List Syntax → Segment → ℕ → Bool
 shutsOut notes s n = any (λ c. excluded s (c .relation) (c .places) n) notes
 
--- 3. The findings.
+-- 3. The echo.
+-- a code whose AK4 shows the value
+abbrev pub showsValue : ℕ → Bool
+showsValue c = any (eqb c) (4 ∷ 5 ∷ 7 ∷ 8 ∷ 9 ∷ 10 ∷ [])
+
+-- a value with this code of its own is echoed under code c; one with code 6 is echoed under none
+abbrev pub isEchoed : ℕ → ℕ → Bool
+isEchoed c own = showsValue c && not (eqb own 6)
+
+-- the most bytes that an echo has
+unfoldable pub longestEcho : ℕ
+longestEcho = 99
+
+-- what an AK4 with code c shows of the value e: its first bytes, or nothing
+unfoldable pub echoOf : ℕ → ℕ → Bytes → Bytes
+echoOf c own e = if isEchoed c own then take longestEcho e else []
+
+-- 4. The findings.
+-- one AK4: the place of an element, its reference number (0 for none), a code, and the echo of its value (empty for none)
+pub record Finding : Type 0 where
+  pub place : ℕ
+  pub reference : ℕ
+  pub code : ℕ
+  pub echo : Bytes
+
 -- the codes of place n, ascending, each once: the value's own code, 2 where a note lacks it, 10 where one shuts it out
 unfoldable pub placeCodes : Delimiters → List Syntax → Segment → Row → ℕ → List ℕ
 placeCodes d notes s r n =
@@ -114,13 +137,20 @@ placeCodes d notes s r n =
     (shutsOut notes s n ⇒ 10) ∷
     [])
 
-abbrev pub found : ℕ → Row → ℕ → Finding
-found n r c = record { place = n; reference = r .reference; code = c }
+-- the finding of code c at place n
+abbrev pub found : Delimiters → Segment → Row → ℕ → ℕ → Finding
+found d s r n c =
+    let e = field s n in
+    record { place = n; reference = r .reference; code = c; echo = echoOf c (elementCode d r e) e }
+
+-- the finding of an element beyond the rows, at the place after the last of them
+abbrev pub surplusAt : ℕ → Finding
+surplusAt n = record { place = n; reference = 0; code = 3; echo = [] }
 
 -- the findings of the rows from place n on; where there are more elements than rows, code 3 at the place after the last
 unfoldable pub findingsFrom : Delimiters → List Syntax → Segment → ℕ → List Row → List Finding
-findingsFrom d notes s n [] = if ltb n (length s) then record { place = n; reference = 0; code = 3 } ∷ [] else []
-findingsFrom d notes s n (r ∷ rs) = map (found n r) (placeCodes d notes s r n) ++ findingsFrom d notes s (n + 1) rs
+findingsFrom d notes s n [] = if ltb n (length s) then surplusAt n ∷ [] else []
+findingsFrom d notes s n (r ∷ rs) = map (found d s r n) (placeCodes d notes s r n) ++ findingsFrom d notes s (n + 1) rs
 
 -- all findings of a segment by its entry, by place and then code
 unfoldable pub findings : Delimiters → Entry → Segment → List Finding

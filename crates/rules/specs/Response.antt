@@ -1,18 +1,17 @@
 -- "The response": the segments of the 997 as a function of the group's report, the envelope around it, and their bytes.
 use Prim.Native.Nat.{ℕ, _+_}
-use mathlib.Core.Bool.{Bool, true, false}
 use mathlib.Core.List.{List, [], _∷_, _++_, map}
 use lib.Dec.{eqb}
 use lib.ListN.{length}
 use Rattle.rules.specs.Base.{Bytes, ascii, null, if_then_else_}
 use Rattle.rules.specs.Cutting.{Segment, field, delimiters, isa, segments}
 use Rattle.rules.specs.Numbers.{padded, decimal}
+use Rattle.rules.specs.Elements.{Finding}
 use Rattle.rules.specs.Segments.{Note}
 use Rattle.rules.specs.Sets.{SetReport, accepted}
 use Rattle.rules.specs.Groups.{Group, groupOf, GroupReport, groupReport}
 use Rattle.rules.specs.declared.Call.{Call}
 use Rattle.rules.specs.declared.Delimiters.{Delimiters}
-use Rattle.rules.specs.declared.Finding.{Finding}
 
 -- 1. Segments into bytes.
 -- each field after a separator
@@ -30,11 +29,15 @@ out d [] = []
 out d (s ∷ ss) = segmentOut d s ++ out d ss
 
 -- 2. The block of a set, AK2 to AK5.
--- place, reference number (nothing where there is none) and code
+-- an element at the end of a segment, left off where it is empty
+unfoldable pub trailing : Bytes → List Bytes
+trailing e = if null e then [] else e ∷ []
+
+-- place, reference number (nothing where there is none), code, and the echo where there is one
 unfoldable pub ak4 : Finding → Segment
 ak4 f =
     ascii "AK4" ∷ decimal (f .place) ∷ (if eqb (f .reference) 0 then [] else decimal (f .reference))
-    ∷ decimal (f .code) ∷ []
+    ∷ decimal (f .code) ∷ trailing (f .echo)
 
 -- id, position, nothing, codes; and the AK4 under it
 unfoldable pub ak3 : Note → List Segment

@@ -6,12 +6,11 @@ use mathlib.Core.Option.{Option, none, some}
 use lib.Dec.{ltb, eqb}
 use lib.ListN.{length, getD}
 use lib.Seq.{slice}
-use Rattle.rules.specs.Base.{Bytes, Rule, _⇒_, every, null, all, between, isUpperOrDigit, ascii, same, member, keep, if_then_else_}
+use Rattle.rules.specs.Base.{Bytes, _⇒_, every, null, all, between, isUpperOrDigit, ascii, same, member, keep, if_then_else_}
 use Rattle.rules.specs.Cutting.{Segment, field}
 use Rattle.rules.specs.Tables.{Entry, Table, entry, O}
-use Rattle.rules.specs.Elements.{findings}
+use Rattle.rules.specs.Elements.{Finding, findings}
 use Rattle.rules.specs.declared.Delimiters.{Delimiters}
-use Rattle.rules.specs.declared.Finding.{Finding}
 
 -- one AK3 with the AK4 under it
 pub record Note : Type 0 where

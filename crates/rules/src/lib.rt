@@ -100,21 +100,27 @@ pub struct Span {
     pub end: usize,
 }
 
-// What is found of one element, an AK4: its place, its reference number (0 for none) and the code.
+// What is found of one element, an AK4: its place, its reference number (0 for none), the code, and where its echo lies in the segment. The
+// echo ends where it starts if there is none.
 pub struct Finding {
     pub place: usize,
     pub reference: u16,
     pub code: u8,
+    pub echo: Span,
 }
 
 impl Finding {
-    pub fn new(place: usize, reference: u16, code: u8) -> Self
-        ensures { λ r. ⌜ r ≡ record { place = place; reference = reference; code = code } ⌝ }
+    // The most bytes of a value that are echoed.
+    pub const LONGEST_ECHO: usize = 99;
+
+    pub fn new(place: usize, reference: u16, code: u8, echo: Span) -> Self
+        ensures { λ r. ⌜ r ≡ record { place = place; reference = reference; code = code; echo = echo } ⌝ }
     {
         Self {
             place,
             reference,
             code,
+            echo,
         }
     }
 }

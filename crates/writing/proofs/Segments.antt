@@ -3,12 +3,13 @@ use mathlib.Core.Path.{_≡_, refl, sym, ap, _∙_}
 use mathlib.Core.List.{List, [], _∷_, _++_, append-nil, append-assoc, map}
 use Prim.Native.Nat.{ℕ, suc, _+_, _≤_, _<_}
 use native.Mathlib.Numerals.{add-one}
+use native.Mathlib.Omega.{arith}
 use lib.ListN.{length, drop, getD, drop-of-length-le}
 use lib.Seq.{drop-cons}
 use Rattle.rules.specs.Base.{Bytes}
 use Rattle.rules.specs.Cutting.{Segment}
 use Rattle.rules.specs.Numbers.{decimal}
-use Rattle.rules.specs.Response.{fieldsOut, segmentOut, out}
+use Rattle.rules.specs.Response.{fieldsOut, segmentOut, trailing, out}
 use Rattle.rules.specs.declared.Delimiters.{Delimiters}
 use Rattle.rules.proofs.Cuts.{out-append}
 use Rattle.writing.specs.Over.{From}
@@ -29,6 +30,17 @@ fields-append d (f ∷ fs) gs =
 -- a separator and a text after it are an element
 pub field : (d : Delimiters) {f o o₁ o₂ : Bytes} {n m r : ℕ} → From n (d .element ∷ []) m o o₁ → From m f r o₁ o₂ → From n (fieldsOut d (f ∷ [])) r o o₂
 field d {f} a b = said (field-out d f) (seq a b)
+
+-- an element at the end, which is left off where it is empty
+pub trailing-none : (e : Bytes) → length e ≡ 0 → trailing e ≡ []
+unfolding trailing
+trailing-none [] h = refl
+trailing-none (b ∷ e) h = absurd (omega arith)
+
+pub trailing-some : (e : Bytes) → (length e ≡ 0 → ⊥) → trailing e ≡ e ∷ []
+unfolding trailing
+trailing-some [] h = absurd (h refl)
+trailing-some (b ∷ e) h = refl
 
 -- elements after elements
 pub also : (d : Delimiters) (fs gs : Segment) {o o₁ o₂ : Bytes} {n m r : ℕ}

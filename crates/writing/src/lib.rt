@@ -5,7 +5,7 @@ ghost use mathlib.Core.List.{[], _∷_, map};
 ghost use Prim.Native.Nat.{_+_, min};
 ghost use lib.ListN.{set};
 ghost use Rattle.rules.specs.Numbers.{decimal, padded};
-ghost use Rattle.rules.specs.Response.{fieldsOut, segmentOut};
+ghost use Rattle.rules.specs.Response.{fieldsOut, segmentOut, trailing};
 ghost use Rattle.writing.specs.Over.{sat, Wrote, From};
 ghost use Rattle.writing.specs.Optional.{optional};
 
@@ -168,6 +168,16 @@ pub fn add_optional(out: &mut [u8], n: usize, d: rules::Delimiters, v: u64) -> u
         return add_byte(out, n, d.element);
     }
     add_count(out, n, d, v)
+}
+
+// An element at the end of a segment, after its separator; nothing where it is empty.
+pub fn add_trailing(out: &mut [u8], n: usize, d: rules::Delimiters, bytes: &[u8]) -> usize
+    ensures { λ r. ⌜ From n (fieldsOut d (trailing (now (bytes .entry)))) r (now (out .entry)) (now (out .exit)) ⌝ }
+{
+    if bytes.len() == 0 {
+        return n;
+    }
+    add_field(out, n, d, bytes)
 }
 
 // Codes as elements, each after its separator.

@@ -95,7 +95,7 @@ fn segment_codes(segment: &[u8], separator: u8) -> Vec<Outcome> {
     let parts: Vec<&[u8]> = segment.split(|&byte| byte == separator).collect();
     let (id, codes) = match (parts[0], parts.as_slice()) {
         (b"AK3", [_, _, _, _, codes @ ..]) => ("AK3", codes.to_vec()),
-        (b"AK4", [_, _, _, codes @ ..]) => ("AK4", codes.to_vec()),
+        (b"AK4", [_, _, _, code, ..]) => ("AK4", vec![*code]),
         (b"AK5", [_, codes @ ..]) => ("AK5", codes.to_vec()),
         (b"AK9", [_, verdict, _, _, _, codes @ ..]) => ("AK9", [&[*verdict], codes].concat()),
         _ => return Vec::new(),

@@ -9,6 +9,7 @@ mod control_numbers;
 pub mod coverage;
 mod days;
 mod draft;
+mod echoes;
 mod first_line;
 mod group_damage;
 pub mod prng;
@@ -29,6 +30,8 @@ pub enum Family {
     DamagedSets,
     /// With days around the ends of months, and such as are none.
     MonthEnds,
+    /// With values that AK4 shows or withholds.
+    Echoes,
     DamagedGroup,
     Soup,
     /// Made for one refusal number.
@@ -42,6 +45,7 @@ pub enum Family {
     DeepNumbers,
     ManySets,
     ManyNotes,
+    ManyEchoes,
 }
 
 impl Family {
@@ -117,7 +121,9 @@ pub fn standard_input(seed: u64, index: u64) -> Vec<u8> {
 fn pick_family(prng: &mut Prng) -> Family {
     match prng.below(1000) {
         0..80 => Family::Clean,
-        80..340 => Family::DamagedSets,
+        80..298 => Family::DamagedSets,
+        298..338 => Family::Echoes,
+        338..340 => Family::ManyEchoes,
         340..380 => Family::MonthEnds,
         380..500 => Family::DamagedGroup,
         500..640 => Family::Soup,
@@ -142,6 +148,7 @@ fn make_in_family(prng: &mut Prng, family: Family) -> Case {
         Family::Clean => as_drafted(family, &Draft::clean(prng)),
         Family::DamagedSets => as_drafted(family, &damaged_sets(prng)),
         Family::MonthEnds => as_drafted(family, &month_ends(prng)),
+        Family::Echoes => at_buffer_edge(prng, family, echoes),
         Family::DamagedGroup => as_drafted(family, &damaged_group(prng)),
         Family::Soup => as_drafted(family, &soup::soup(prng)),
         Family::Refusal(number) => refused(prng, family, &[number]),
@@ -165,6 +172,7 @@ fn make_in_family(prng: &mut Prng, family: Family) -> Case {
         Family::DeepNumbers => as_drafted(family, &sizes::deep_numbers(prng)),
         Family::ManySets => at_buffer_edge(prng, family, sizes::many_sets),
         Family::ManyNotes => at_buffer_edge(prng, family, sizes::many_notes),
+        Family::ManyEchoes => at_buffer_edge(prng, family, sizes::many_echoes),
     }
 }
 
@@ -199,6 +207,16 @@ fn month_ends(prng: &mut Prng) -> Draft {
     draft
 }
 
+fn echoes(prng: &mut Prng) -> Draft {
+    let mut draft = if prng.percent(70) {
+        Draft::clean(prng)
+    } else {
+        damaged_sets(prng)
+    };
+    echoes::put_values(prng, &mut draft);
+    draft
+}
+
 fn damaged_group(prng: &mut Prng) -> Draft {
     let mut draft = Draft::clean(prng);
     if prng.percent(30) {
@@ -209,10 +227,11 @@ fn damaged_group(prng: &mut Prng) -> Draft {
 }
 
 fn any_small(prng: &mut Prng) -> Draft {
-    match prng.below(4) {
+    match prng.below(5) {
         0 => Draft::clean(prng),
         1 => damaged_sets(prng),
         2 => damaged_group(prng),
+        3 => echoes(prng),
         _ => soup::soup(prng),
     }
 }

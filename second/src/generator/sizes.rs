@@ -1,5 +1,6 @@
 //! Interchanges of remarkable size: around the limits, and of many sets or segments.
 
+use super::content;
 use super::control_numbers;
 use super::draft::{clean_set, segment, set_element, Draft, DraftSegment, Edition};
 use super::prng::Prng;
@@ -141,5 +142,21 @@ pub fn many_notes(prng: &mut Prng) -> Draft {
         let se = draft.indices_of("SE")[0];
         set_element(&mut draft.segments[se], 1, (count + 2).to_string());
     }
+    draft
+}
+
+/// One set of hundreds of segments, up to as many as fit, each with a value
+/// that is shown.
+pub fn many_echoes(prng: &mut Prng) -> Draft {
+    let mut draft = Draft::without_sets(prng, Edition::Of004010);
+    let mut set = tiny_set(TinySet::Clean, b"0001");
+    let length = *prng.pick(&[31, 98, 99, 100, 150]);
+    let shown = segment(&["K1"], [content::text(prng, &draft.delimiters, length)]);
+    let room = room(&draft) - rendered_length(&set) - "00000".len();
+    let most = room / rendered_length(std::slice::from_ref(&shown));
+    let count = prng.between(100, most);
+    set.splice(2..2, std::iter::repeat_n(shown, count));
+    draft.append_to_group(set);
+    draft.recount();
     draft
 }

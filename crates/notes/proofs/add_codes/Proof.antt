@@ -13,7 +13,8 @@ same-length c = kept (c .before .before .add-finding2 .ensures .text) ∙ kept (
 returns : tie.Need-returns
 returns c =
     let first = c .before .before .before .before .before .before .before in
-    adds-same (sym (findings-two (first .before .before .before .before .args .c))) (adds-more (rw (first .before .new .ensures) at (first .add-finding .ensures)) (rw (c .before .before .before .new2 .ensures) at (c .before .before .add-finding2 .ensures)))
+    let a = first .before .before .before .before .before .args in
+    adds-same (sym (findings-two (a .s .now) (a .c))) (adds-more (rw (first .before .finding .ensures) at (first .add-finding .ensures)) (rw (c .before .before .before .finding2 .ensures) at (c .before .before .add-finding2 .ensures)))
 
 pub add-codes-spec : {M : Type 1} → statement M
 add-codes-spec =

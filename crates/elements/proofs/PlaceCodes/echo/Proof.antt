@@ -1,0 +1,16 @@
+-- `elements::PlaceCodes::echo` meets its contract.
+use borrow.Author.Needs.{needs}
+use Rattle.elements.specs.Checks.{echoAt}
+use Rattle.elements.proofs.PlaceCodes.echo.Statement.{statement}
+use Rattle.elements.proofs.PlaceCodes.echo.Tie as tie
+
+returns : tie.Need-returns
+unfolding echoAt
+returns c = rw (c .beginning .ensures, rw (c .before .before .before .shows-value .ensures) at (c .before .if1 .taken))
+
+returns-2 : tie.Need-returns-2
+unfolding echoAt
+returns-2 c = rw (rw (c .before .before .shows-value .ensures) at (c .if1 .left))
+
+pub echo-spec : {M : Type 1} → statement M
+echo-spec = tie.close (tie.spec (λ c κs. search needs) (λ c κs. search needs) returns returns-2)
