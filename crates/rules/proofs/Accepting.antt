@@ -17,7 +17,7 @@ use Rattle.rules.specs.Sets.{Set, isST, setsOf, controlOf, notesIn, setC
 use Rattle.rules.specs.Groups.{Group, supported, edition, sets, tableIn, setReports, groupReport}
 use Rattle.rules.specs.Response.{fieldsOut, segmentOut, ak5, ak9}
 use Rattle.rules.specs.declared.Delimiters.{Delimiters}
-use Rattle.rules.proofs.Logic.{or-left, or-right, same→eq, Silent}
+use Rattle.rules.proofs.Logic.{or-left, or-right, or-none, same→eq, Silent}
 use Rattle.rules.proofs.Lengths.{every-short}
 
 -- 1. Rules: no number is given exactly when no rule applies.
@@ -265,10 +265,6 @@ before-member c controls (s ∷ ss) (suc k) =
     swap true true r = refl
     swap true false r = refl
     swap false b r = refl
-
-or-none : (b : Bool) → b || false ≡ b
-or-none true = refl
-or-none false = refl
 
 -- Set k of a group, and what is reported of it.
 module _ (d : Delimiters) (g : Group) (k : ℕ) (x : Set) (y : SetReport) (h : k < length (sets g)) where

@@ -22,7 +22,7 @@ use Rattle.rules.specs.declared.Relation.{Relation}
 use Rattle.rules.specs.declared.Relation.the-variants.{P, R, E, C, L}
 use Rattle.rules.proofs.Accepting.{report-at}
 use Rattle.rules.proofs.Lengths.{either}
-use Rattle.rules.proofs.Logic.{and-left, and-right, all-head, all-tail, Each, each-none, each-append, each-map, every-given}
+use Rattle.rules.proofs.Logic.{and-left, and-right, or-none, all-take, any-append, Each, each-none, each-append, each-map, every-given}
 
 -- one of the findings says code 6 of place n: the value there is withheld
 abbrev pub isWithheld : List Finding → ℕ → Bool
@@ -44,12 +44,6 @@ take-again : (k : ℕ) (e : Bytes) → take (length (take k e)) e ≡ take k e
 take-again zero e = refl
 take-again (suc k) [] = refl
 take-again (suc k) (b ∷ e) = ap (λ (l : Bytes). b ∷ l) (take-again k e)
-
-all-take : (p : ℕ → Bool) (k : ℕ) (e : Bytes) → all p e ≡ true → all p (take k e) ≡ true
-unfolding all
-all-take p zero e h = refl
-all-take p (suc k) [] h = refl
-all-take p (suc k) (b ∷ e) h = rw (all-head p b e h) (all-take p k e (all-tail p b e h))
 
 take-some : (k : ℕ) (e : Bytes) → 0 < k → null e ≡ false → null (take k e) ≡ false
 take-some zero e l h = absurd (omega arith)
@@ -141,10 +135,6 @@ shut-present (c ∷ cs) s n h = go (excluded s (c .relation) (c .places) n) refl
     go true q more = relation-present s (c .relation) (c .places) n q
     go false q more = more (rw q at h)
 
-or-none : (b : Bool) → b || false ≡ b
-or-none true = refl
-or-none false = refl
-
 not-six : (k : ℕ) → between 4 9 k ≡ false → eqb k 6 ≡ false
 not-six k q = go (eqb k 6) refl
   where
@@ -228,15 +218,6 @@ module _ (d : Delimiters) (notes : List Syntax) (s : Segment) (r : Row) (n : ℕ
       whole false filled h = absurd (true≢false filled)
 
 -- 4. The findings of a segment.
-any-append : {A : Type 0} (p : A → Bool) (xs ys : List A) → any p (xs ++ ys) ≡ any p xs || any p ys
-unfolding any
-any-append p [] ys = refl
-any-append p (x ∷ xs) ys = rw (any-append p xs ys) (go (p x))
-  where
-    go : (b : Bool) → b || (any p xs || any p ys) ≡ (b || any p xs) || any p ys
-    go true = refl
-    go false = refl
-
 module _ (d : Delimiters) (notes : List Syntax) (s : Segment) where
   -- those from place k on say nothing of one before
   withheld-before : (n k : ℕ) (rs : List Row) → n < k → isWithheld (findingsFrom d notes s k rs) n ≡ false

@@ -7,8 +7,8 @@ use native.Mathlib.Nat.{not-suc-le-zero, le-of-suc-le-suc}
 use native.Mathlib.Omega.{arith}
 use borrow.Author.Tests.{eqb-true, leb-true}
 use lib.Dec.{T, T-not, leb, eqb}
-use lib.ListN.{length, getD}
-use Rattle.rules.specs.Base.{Bytes, same, all, front, last, Rule, _⇒_, first, every}
+use lib.ListN.{length, getD, take}
+use Rattle.rules.specs.Base.{Bytes, same, all, any, front, last, Rule, _⇒_, first, every}
 
 pub and-left : (a b : Bool) → a && b ≡ true → a ≡ true
 and-left true b e = refl
@@ -25,6 +25,10 @@ or-left true b e = absurd (true≢false e)
 pub or-right : (a b : Bool) → a || b ≡ false → b ≡ false
 or-right false b e = e
 or-right true b e = absurd (true≢false e)
+
+pub or-none : (b : Bool) → b || false ≡ b
+or-none true = refl
+or-none false = refl
 
 pub same→eq : (a b : Bytes) → same a b ≡ true → a ≡ b
 unfolding same
@@ -59,6 +63,21 @@ module _ {A : Type 0} (p : A → Bool) where
   pub all-right : (xs ys : List A) → all p (xs ++ ys) ≡ true → all p ys ≡ true
   all-right [] ys e = e
   all-right (x ∷ xs) ys e = all-right xs ys (all-tail x (xs ++ ys) e)
+
+  pub all-take : (k : ℕ) (xs : List A) → all p xs ≡ true → all p (take k xs) ≡ true
+  unfolding all
+  all-take zero xs e = refl
+  all-take (suc k) [] e = refl
+  all-take (suc k) (x ∷ xs) e = all-cons x (take k xs) (all-head x xs e) (all-take k xs (all-tail x xs e))
+
+  pub any-append : (xs ys : List A) → any p (xs ++ ys) ≡ any p xs || any p ys
+  unfolding any
+  any-append [] ys = refl
+  any-append (x ∷ xs) ys = rw (any-append xs ys) (go (p x))
+    where
+      go : (b : Bool) → b || (any p xs || any p ys) ≡ (b || any p xs) || any p ys
+      go true = refl
+      go false = refl
 
   -- what passes one test passes another that follows from it
   pub all-weaken : (q : A → Bool) → ((x : A) → p x ≡ true → q x ≡ true) → (xs : List A) → all p xs ≡ true → all q xs ≡ true

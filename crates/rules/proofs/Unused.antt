@@ -22,7 +22,7 @@ use Rattle.rules.specs.declared.Call.{Call}
 use Rattle.rules.specs.declared.Delimiters.{Delimiters}
 use Rattle.rules.specs.declared.Relation.{Relation}
 use Rattle.rules.specs.declared.Relation.the-variants.{P, R, E, C, L}
-use Rattle.rules.proofs.Logic.{and-left, and-right, all-head, all-tail, all-append}
+use Rattle.rules.proofs.Logic.{and-left, and-right, all-head, all-tail, all-append, Given}
 use Rattle.rules.proofs.Lengths.{either}
 
 -- a code of an element other than 9 and 10: one of 1 to 8, or 0 for none
@@ -30,21 +30,17 @@ abbrev pub isUsed : ℕ → Bool
 isUsed c = leb c 8
 
 -- 1. Rules: what holds of the number of every rule that may apply holds of those that are given.
-abbrev Each : (ℕ → Bool) → List Rule → Type 0
-Each p [] = Unit {0}
-Each p ((b ⇒ n) ∷ rs) = (b ≡ true → p n ≡ true) × Each p rs
-
-first-each : (p : ℕ → Bool) → p 0 ≡ true → (rs : List Rule) → Each p rs → p (first rs) ≡ true
+first-given : (p : ℕ → Bool) → p 0 ≡ true → (rs : List Rule) → Given (λ n. p n ≡ true) rs → p (first rs) ≡ true
 unfolding first
-first-each p z [] h = z
-first-each p z ((true ⇒ n) ∷ rs) h = h .0 refl
-first-each p z ((false ⇒ n) ∷ rs) h = first-each p z rs (h .1)
+first-given p z [] h = z
+first-given p z ((true ⇒ n) ∷ rs) h = h .0 refl
+first-given p z ((false ⇒ n) ∷ rs) h = first-given p z rs (h .1)
 
-every-each : (p : ℕ → Bool) (rs : List Rule) → Each p rs → all p (every rs) ≡ true
+all-given : (p : ℕ → Bool) (rs : List Rule) → Given (λ n. p n ≡ true) rs → all p (every rs) ≡ true
 unfolding every all
-every-each p [] h = refl
-every-each p ((true ⇒ n) ∷ rs) h = rw (h .0 refl) (every-each p rs (h .1))
-every-each p ((false ⇒ n) ∷ rs) h = every-each p rs (h .1)
+all-given p [] h = refl
+all-given p ((true ⇒ n) ∷ rs) h = rw (h .0 refl) (all-given p rs (h .1))
+all-given p ((false ⇒ n) ∷ rs) h = all-given p rs (h .1)
 
 -- 2. A table without times and without notes E.
 abbrev isE : Relation → Bool
@@ -61,8 +57,8 @@ own-used : (d : Delimiters) (r : Row) (e : Bytes) → not (isTM (r .kind)) ≡ t
 unfolding elementCode
 own-used d r e h =
     either (λ (c : ℕ). isUsed c ≡ true) (null e)
-    (first-each isUsed refl _ (λ b. refl, tt))
-    (first-each isUsed refl _
+    (first-given isUsed refl _ (λ b. refl, tt))
+    (first-given isUsed refl _
     (λ b. refl, (λ b. refl, (λ b. refl, (λ b. refl, (λ b. refl, (λ b. absurd (false≢true (rw (not-true (isTM (r .kind)) h) at b)), tt)))))))
 
 relation-admits : (k : Relation) → not (isE k) ≡ true → (s : Segment) (ps : List ℕ) (n : ℕ) → excluded s k ps n ≡ false
@@ -89,7 +85,7 @@ module _ (d : Delimiters) (notes : List Syntax) (s : Segment) (h : all (λ c. no
   place-used : (r : Row) (n : ℕ) → not (isTM (r .kind)) ≡ true → all isUsed (placeCodes d notes s r n) ≡ true
   unfolding placeCodes
   place-used r n k =
-      every-each isUsed _
+      all-given isUsed _
       (λ b. refl, (λ b. refl, (λ b. own-used d r (field s n) k, (λ b. absurd (false≢true (sym (notes-admit notes h s n) ∙ b)), tt))))
 
   findings-used : (n : ℕ) (rows : List Row) → all (λ r. not (isTM (r .kind))) rows ≡ true

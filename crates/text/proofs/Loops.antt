@@ -1,23 +1,19 @@
 -- A loop over a list at a cursor: what is left at one place is the element there and what is left at the next.
 use Prim.Native.Nat.{ℕ, suc, _+_, _<_, _≤_}
-use mathlib.Core.Path.{_≡_, refl, sym, ap}
+use mathlib.Core.Path.{_≡_, refl, ap}
 use mathlib.Core.Bool.{Bool, true, false, _&&_, _||_}
-use mathlib.Core.List.{List, [], _∷_, _++_}
+use mathlib.Core.List.{List, [], _∷_}
 use native.Mathlib.Numerals.{add-one}
 use native.Mathlib.Omega.{arith}
 use lib.Dec.{eqb}
 use lib.ListN.{length, getD, take, drop, drop-of-length-le, take-append-drop, length-drop}
 use lib.Seq.{drop-cons, take-suc, take-add, drop-drop, getD-drop}
 use Rattle.rules.specs.Base.{Bytes, same, all, any}
-use Rattle.rules.proofs.Logic.{all-left, all-right}
+use Rattle.rules.proofs.Logic.{all-right, any-append}
 
 pub and-false : (a : Bool) → a && false ≡ false
 and-false true = refl
 and-false false = refl
-
-pub or-assoc : (a b c : Bool) → (a || b) || c ≡ a || (b || c)
-or-assoc true b c = refl
-or-assoc false b c = refl
 
 pub or-false : (a : Bool) → a || false ≡ a
 or-false true = refl
@@ -56,24 +52,16 @@ module _ {A : Type 0} (p : A → Bool) (xs : List A) (k : ℕ) (h : length xs �
 
 -- any of a run of elements that is one longer, and of two runs
 module _ {A : Type 0} (p : A → Bool) where
-  pub any-append : (xs ys : List A) → any p (xs ++ ys) ≡ any p xs || any p ys
-  unfolding any
-  any-append [] ys = refl
-  any-append (x ∷ xs) ys = rw (any-append xs ys) (sym (or-assoc (p x) (any p xs) (any p ys)))
-
   pub any-more : (xs : List A) (d : A) (i n : ℕ) → i + n < length xs → any p (take (suc n) (drop i xs)) ≡ any p (take n (drop i xs)) || p (getD xs (i + n) d)
   unfolding any
   any-more xs d i n h =
-      rw (take-suc (drop i xs) n d (omega (arith, length-drop i xs)), any-append (take n (drop i xs)), getD-drop i xs n d, or-false (p (getD xs (i + n) d)))
+      rw (take-suc (drop i xs) n d (omega (arith, length-drop i xs)), any-append p (take n (drop i xs)), getD-drop i xs n d, or-false (p (getD xs (i + n) d)))
 
   pub any-runs : (xs : List A) (i n m : ℕ) → any p (take (n + m) (drop i xs)) ≡ any p (take n (drop i xs)) || any p (take m (drop (i + n) xs))
-  any-runs xs i n m = rw (take-add n m (drop i xs), any-append (take n (drop i xs)), drop-drop n i xs)
+  any-runs xs i n m = rw (take-add n m (drop i xs), any-append p (take n (drop i xs)), drop-drop n i xs)
 
 -- what all pass, all of a part pass
 module _ {A : Type 0} (p : A → Bool) (k : ℕ) (xs : List A) (e : all p xs ≡ true) where
-  pub all-take : all p (take k xs) ≡ true
-  all-take = all-left p (take k xs) (drop k xs) (rw take-append-drop e)
-
   pub all-drop : all p (drop k xs) ≡ true
   all-drop = all-right p (take k xs) (drop k xs) (rw take-append-drop e)
 

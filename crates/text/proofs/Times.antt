@@ -8,7 +8,8 @@ use lib.ListN.{length, take, drop, drop-of-length-le, length-take}
 use Rattle.rules.specs.Base.{Bytes, isDigit, all}
 use Rattle.rules.specs.Numbers.{digits, value, valueFrom, two, isTime}
 use Rattle.text.specs.Text.{upToTen}
-use Rattle.text.proofs.Loops.{all-take, all-drop}
+use Rattle.rules.proofs.Logic.{all-take}
+use Rattle.text.proofs.Loops.{all-drop}
 use Rattle.text.proofs.Digits.{digits-length, digits-all, value-by}
 
 pub record TimeDigits (s : Bytes) : Type 0 where
