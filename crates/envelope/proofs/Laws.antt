@@ -13,14 +13,13 @@ use lib.Seq.{getD-drop}
 use Rattle.rules.specs.Base.{Bytes, ascii, same, null, all, last, listed, first}
 use Rattle.rules.specs.Cutting.{Segment, field, isNamed, pieces, split, segments}
 use Rattle.rules.specs.Groups.{groupOf, isGE}
-use Rattle.rules.specs.Refusals.{isEnvelope, enveloped, envelopeRules, hasTwo, closes, countsGroups, trailerRules}
+use Rattle.rules.specs.Refusals.{isEnvelope, enveloped, envelopeRules}
 use Rattle.rules.specs.declared.Delimiters.{Delimiters}
 use Rattle.rules.proofs.Logic.{and-left, and-right, all-append}
 use Rattle.rules.proofs.SetLaws.{isOuter, Optional, missing, there}
 use Rattle.segments.proofs.Pieces.{WholePart, whole-empty, whole-next, pieces-at, pieces-none, segments-at, segments-none, segments-rest, segments-part}
 use Rattle.text.specs.Text.{part}
 use Rattle.envelope.specs.Places.{endOf, segmentAt, untilEnvelope, trailerAt, trailerIn, groupAt, envelopeAt, envelopeOf}
-use Rattle.envelope.specs.Faults.{trailerFault, faultNumber}
 use Rattle.envelope.specs.declared.GroupAt.{GroupAt}
 use Rattle.envelope.specs.declared.Envelope.{Envelope}
 use Rattle.envelope.specs.declared.Enveloped.{Enveloped}
@@ -264,22 +263,6 @@ pub broken-is : (d : Delimiters) (i : Bytes) → envelopeOf d i ≡ Broken → e
 broken-is d i p = subst (Is d i) p (envelope-is d i)
 
 -- refusal 7
-pub whole-passes : (d : Delimiters) (i : Bytes) {e : Envelope} → envelopeOf d i ≡ Whole e → first (envelopeRules (segments d i)) ≡ 0
-unfolding envelopeRules first
-whole-passes d i p = rw (whole-is d i p .envelope)
-
 pub broken-refused : (d : Delimiters) (i : Bytes) → envelopeOf d i ≡ Broken → first (envelopeRules (segments d i)) ≡ 7
 unfolding envelopeRules first
 broken-refused d i p = rw (broken-is d i p)
-
--- 6. Refusal 8: the number of the first fault of IEA is that of its rules.
-pub fault-number : (iea : Segment) (n : ℕ) (isa13 : Bytes) → faultNumber (trailerFault iea n isa13) ≡ first (trailerRules iea n isa13)
-unfolding trailerFault trailerRules first
-fault-number iea n isa13 = go (hasTwo iea) (closes iea isa13) (countsGroups n iea) refl refl refl
-  where
-    go : (a b c : Bool) → hasTwo iea ≡ a → closes iea isa13 ≡ b → countsGroups n iea ≡ c
-        → faultNumber (trailerFault iea n isa13) ≡ first (trailerRules iea n isa13)
-    go false b c p q r = rw p
-    go true false c p q r = rw (p, q)
-    go true true false p q r = rw (p, q, r)
-    go true true true p q r = rw (p, q, r)

@@ -1,4 +1,4 @@
--- What is wrong with IEA, and the number of the refusal.
+-- What is wrong with IEA.
 use Prim.Native.Nat.{ℕ}
 use mathlib.Core.Bool.{not}
 use Rattle.rules.specs.Base.{Bytes, if_then_else_}
@@ -12,10 +12,3 @@ unfoldable pub trailerFault : Segment → ℕ → Bytes → TrailerFault
 trailerFault iea n isa13 =
     if not (hasTwo iea) then NotTwoElements
     else (if not (closes iea isa13) then OtherControl else (if not (countsGroups n iea) then OtherCount else None))
-
--- document 01's number for each
-abbrev pub faultNumber : TrailerFault → ℕ
-faultNumber None = 0
-faultNumber NotTwoElements = 8
-faultNumber OtherControl = 8
-faultNumber OtherCount = 8

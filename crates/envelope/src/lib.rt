@@ -6,7 +6,7 @@ ghost use Rattle.rules.specs.Cutting.{field, isNamed, pieces, split};
 ghost use Rattle.rules.specs.Refusals as law;
 ghost use Rattle.text.specs.Text.{part};
 ghost use Rattle.envelope.specs.Places.{isEnvelopeName, untilEnvelope, trailerAt, envelopeOf};
-ghost use Rattle.envelope.specs.Faults.{trailerFault, faultNumber};
+ghost use Rattle.envelope.specs.Faults.{trailerFault};
 use rules::Delimiters;
 use rules::GE;
 use rules::GS;
@@ -47,20 +47,6 @@ pub enum TrailerFault {
     NotTwoElements,
     OtherControl,
     OtherCount,
-}
-
-impl TrailerFault {
-    // Refusal 8, whichever it is; 0 where nothing is wrong.
-    pub fn refusal(self) -> u8
-        ensures { λ r. ⌜ r ≡ faultNumber self ⌝ }
-    {
-        match self {
-            TrailerFault::None => 0,
-            TrailerFault::NotTwoElements => 8,
-            TrailerFault::OtherControl => 8,
-            TrailerFault::OtherCount => 8,
-        }
-    }
 }
 
 // What stands where the body ends: GE up to `end`, or nothing. `next` is where IEA is due.

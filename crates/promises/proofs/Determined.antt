@@ -45,7 +45,6 @@ use Rattle.segments.proofs.id.Reads as segments-id
 use Rattle.segments.proofs.is_named.Reads as segments-is-named
 use Rattle.segments.proofs.is_present.Reads as segments-is-present
 use Rattle.segments.proofs.field_count.Reads as segments-field-count
-use Rattle.envelope.proofs.TrailerFault.refusal.Reads as envelope-TrailerFault-refusal
 use Rattle.envelope.proofs.envelope_of.Reads as envelope-envelope-of
 use Rattle.envelope.proofs.trailer_fault.Reads as envelope-trailer-fault
 use Rattle.group_header.proofs.header_refusal.Reads as group-header-header-refusal
@@ -54,6 +53,9 @@ use Rattle.sets.proofs.next_set.Reads as sets-next-set
 use Rattle.sets.proofs.set_refusal.Reads as sets-set-refusal
 use Rattle.register.proofs.search.Reads as register-search
 use Rattle.register.proofs.field_end.Reads as register-field-end
+use Rattle.refusals.proofs.EnvelopeFault.refusal.Reads as refusals-EnvelopeFault-refusal
+use Rattle.refusals.proofs.check_head.Reads as refusals-check-head
+use Rattle.refusals.proofs.check_envelope.Reads as refusals-check-envelope
 use Rattle.refusals.proofs.group_refusal.Reads as refusals-group-refusal
 use Rattle.refusals.proofs.check.Reads as refusals-check
 use Rattle.tables.proofs.is_segment.Reads as tables-is-segment
@@ -254,9 +256,6 @@ segments-field-count-once : Determined segments-field-count.Pre segments-field-c
 segments-field-count-once = ((λ κs a. tt), λ κs a r₁ r₂ s₁ s₂ p q. p ∙ sym q)
 
 -- envelope
-envelope-TrailerFault-refusal-once : Determined envelope-TrailerFault-refusal.Pre envelope-TrailerFault-refusal.Post (λ κs r s. r)
-envelope-TrailerFault-refusal-once = ((λ κs a. tt), λ κs a r₁ r₂ s₁ s₂ p q. p ∙ sym q)
-
 envelope-envelope-of-once : Determined envelope-envelope-of.Pre envelope-envelope-of.Post (λ κs r s. r)
 envelope-envelope-of-once = ((λ κs a. tt), λ κs a r₁ r₂ s₁ s₂ p q. p ∙ sym q)
 
@@ -282,6 +281,15 @@ register-search-once : Determined register-search.Pre register-search.Post (λ �
 register-search-once = ((λ κs a. tt), λ κs a r₁ r₂ s₁ s₂ p q. p ∙ sym q)
 
 -- refusals
+refusals-EnvelopeFault-refusal-once : Determined refusals-EnvelopeFault-refusal.Pre refusals-EnvelopeFault-refusal.Post (λ κs r s. r)
+refusals-EnvelopeFault-refusal-once = ((λ κs a. tt), λ κs a r₁ r₂ s₁ s₂ p q. p ∙ sym q)
+
+refusals-check-head-once : Determined refusals-check-head.Pre refusals-check-head.Post (λ κs r s. r)
+refusals-check-head-once = ((λ κs a. tt), λ κs a r₁ r₂ s₁ s₂ p q. p ∙ sym q)
+
+refusals-check-envelope-once : Determined refusals-check-envelope.Pre refusals-check-envelope.Post (λ κs r s. r)
+refusals-check-envelope-once = ((λ κs a. tt), λ κs a r₁ r₂ s₁ s₂ p q. p ∙ sym q)
+
 refusals-group-refusal-once : Determined refusals-group-refusal.Pre refusals-group-refusal.Post (λ κs r s. r)
 refusals-group-refusal-once = ((λ κs a. tt), λ κs a r₁ r₂ s₁ s₂ p q. p ∙ sym q)
 

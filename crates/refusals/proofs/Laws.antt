@@ -1,31 +1,36 @@
 -- The first number that is not 0, stage by stage, and what the checks answer.
-use mathlib.Core.Path.{_≡_, refl, sym, _∙_, ap}
-use mathlib.Core.Bool.{Bool, true, false}
-use mathlib.Core.List.{List, [], _∷_}
+use mathlib.Core.Path.{_≡_, refl, sym, _∙_}
+use mathlib.Core.Bool.{Bool, true, false, not}
+use mathlib.Core.List.{List, [], _∷_, _++_}
 use Prim.Native.Nat.{ℕ}
 use native.Mathlib.Omega.{arith}
 use borrow.Author.Tests.{eqb-true, eqb-false, ne-eqb}
-use lib.Dec.{eqb}
-use Rattle.rules.specs.Base.{Bytes, first, last}
+use lib.Dec.{T, eqb}
+use Rattle.rules.specs.Base.{Bytes, Rule, _⇒_, first, last, if_then_else_}
 use Rattle.rules.specs.Cutting.{field, isa, delimiters, segments, split}
 use Rattle.rules.specs.Groups.{groupOf}
-use Rattle.rules.specs.Refusals.{callRules, headRules, endRules, envelopeRules, trailerRules, headerRules, answerRules, setRules, groupRules, refusal}
+use Rattle.rules.specs.Refusals.{callRules, headRules, isTerminated, endRules, enveloped, envelopeRules, hasTwo, closes, countsGroups, trailerRules, headerRules, answerRules, setRules, groupRules, refusalRules, refusal}
 use Rattle.rules.specs.declared.Call.{Call}
 use Rattle.rules.specs.declared.Delimiters.{Delimiters}
+use Rattle.rules.proofs.Logic.{numbered, first-append}
 use Rattle.rules.proofs.Facts.{firstOf, refusal-blocks, group-blocks}
 use Rattle.isa.specs.Delimited.{isaOf}
 use Rattle.isa.specs.declared.Isa.the-variants as isas
 use Rattle.isa.proofs.Reading.{isa-sound, isa-refused}
 use Rattle.text.specs.Text.{part}
 use Rattle.envelope.specs.Places.{groupAt, envelopeOf}
-use Rattle.envelope.specs.Faults.{trailerFault, faultNumber}
+use Rattle.envelope.specs.Faults.{trailerFault}
 use Rattle.envelope.specs.declared.GroupAt.{GroupAt}
-use Rattle.envelope.specs.declared.TrailerFault.{TrailerFault}
 use Rattle.envelope.specs.declared.Envelope.{Envelope}
 use Rattle.envelope.specs.declared.Enveloped.{Enveloped}
 use Rattle.envelope.specs.declared.Enveloped.the-variants.{Whole, Broken}
-use Rattle.envelope.proofs.Laws.{EnvelopeIs, whole-is, whole-passes, broken-refused, fault-number}
-use Rattle.refusals.specs.Checks.{innerRefusal, laterRefusal, soundIn, soundUnless, checkedWith, checked}
+use Rattle.envelope.specs.declared.TrailerFault.{TrailerFault}
+use Rattle.envelope.specs.declared.TrailerFault.the-variants as trailers
+use Rattle.envelope.proofs.Laws.{EnvelopeIs, whole-is, broken-is, broken-refused}
+use Rattle.refusals.specs.Checks.{headChecked, faultRefusal, checkBy, soundBut, placedBut, trailerCheck, envelopeCheck, soundIn, soundUnless, checked}
+use Rattle.refusals.specs.declared.EnvelopeFault.{EnvelopeFault}
+use Rattle.refusals.specs.declared.EnvelopeFault.the-variants.{NotTerminated, OutOfPlace, NotTwoElements, OtherControl, OtherCount}
+use Rattle.refusals.specs.declared.EnvelopeCheck.the-variants as envelopes
 use Rattle.refusals.specs.declared.Checked.the-variants.{Sound, Refused}
 
 -- 1. The first that is not 0.
@@ -47,6 +52,11 @@ only {n} {m} e = e ∙ go (eqb m 0) refl
     go : (b : Bool) → eqb m 0 ≡ b → m ≡ firstOf (m ∷ [])
     go true p = rw p (eqb-true m 0 p)
     go false p = rw p
+
+-- a block of rules, and those after it
+block : (rs ss : List Rule) (ns : List ℕ) {n : ℕ} → T (numbered rs) → n ≡ first rs → first ss ≡ firstOf ns → first (rs ++ ss) ≡ firstOf (n ∷ ns)
+unfolding firstOf
+block rs ss ns t p q = first-append rs ss t ∙ rw (p, q)
 
 -- where it is 0, all are
 abbrev Clear : List ℕ → Type 0
@@ -75,14 +85,8 @@ unrefused i call e =
     let group = clear _ (sym (group-blocks (delimiters i) (groupOf (segments (delimiters i) i))) ∙ stages .1 .1 .1 .1 .1 .0) in
     record { head = stages .1 .0; envelope = stages .1 .1 .1 .0; sets = group .1 .1 .0 }
 
--- 2. Refusals 8 to 13, by the bytes at their places.
+-- 2. Refusals 9 to 13, by the bytes at their places.
 module _ (d : Delimiters) (i : Bytes) {n : ℕ} where
-  -- 8, of IEA
-  pub trailer-stage : (e : Envelope) {iea isa13 : Bytes} {f : TrailerFault} → n ≡ faultNumber f → f ≡ trailerFault (split (d .element) iea) 1 isa13
-      → iea ≡ part i (e .iea) (e .«iea_end») → isa13 ≡ field (isa i) 13
-      → n ≡ first (trailerRules (split (d .element) (part i (e .iea) (e .«iea_end»))) 1 (field (isa i) 13))
-  trailer-stage e p q r s = p ∙ ap faultNumber q ∙ fault-number _ 1 _ ∙ rw (r, s)
-
   -- 9, of GS
   pub header-stage : (g : GroupAt) {gs : Bytes} → gs ≡ part i (g .gs) (g .«gs_end») → n ≡ first (headerRules d (split (d .element) gs))
       → n ≡ first (headerRules d (groupAt d i g .header))
@@ -98,79 +102,201 @@ module _ (d : Delimiters) (i : Bytes) {n : ℕ} where
       → n ≡ first (setRules d (groupAt d i g .body))
   sets-stage g q p = p ∙ rw q
 
--- 3. Refusals 6 to 13.
--- what is read at the places of an envelope is what the law reads
-inner-is : {d : Delimiters} {i : Bytes} {e : Envelope} → EnvelopeIs d i e
-    → innerRefusal d i e
-    ≡ firstOf (
-    first (trailerRules (last [] (segments d i)) 1 (field (isa i) 13))
-    ∷ (first (groupRules d (groupOf (segments d i)))
-    ∷ []))
-unfolding innerRefusal
-inner-is w = rw (w .trailer, w .place .group)
+-- 3. Refusals 1 to 5.
+module _ (i : Bytes) (call : Call) where
+  head-blocks : first (callRules call ++ headRules i) ≡ firstOf (first (callRules call) ∷ (first (headRules i) ∷ []))
+  unfolding callRules
+  head-blocks = block (callRules call) (headRules i) _ tt refl (only refl)
 
+  module _ {n : ℕ} (p : n ≡ first (callRules call)) where
+    -- 1
+    pub call-refused : (n ≡ 0 → ⊥) → isas.Refused n ≡ headChecked i call
+    unfolding headChecked
+    call-refused h = rw (head-blocks, ← here _ p h, ne-eqb n 0 h)
+
+    -- past it, ISA decides
+    pub call-passed : n ≡ 0 → isaOf i ≡ headChecked i call
+    unfolding headChecked isaOf
+    call-passed z = rw (head-blocks, ← onward _ p z (only {n = first (headRules i)} refl))
+
+  -- refused: the number is that of the first rule that applies
+  pub head-refused : {n : ℕ} → headChecked i call ≡ isas.Refused n → (n ≡ first (callRules call ++ headRules i)) × (n ≡ 0 → ⊥)
+  unfolding headChecked
+  head-refused e = isa-refused _ _ e
+
+  -- sound: no rule applies, and the delimiters are those of the interchange
+  pub head-sound : {d : Delimiters} → headChecked i call ≡ isas.Sound d → (first (callRules call ++ headRules i) ≡ 0) × (d ≡ delimiters i)
+  unfolding headChecked
+  head-sound e = isa-sound _ _ e
+
+-- 4. Refusals 6 to 8.
+abbrev isWhole : Enveloped → Bool
+isWhole (Whole v) = true
+isWhole Broken = false
+
+whole-enveloped : (d : Delimiters) (i : Bytes) → isWhole (envelopeOf d i) ≡ enveloped (segments d i)
+whole-enveloped d i = go (envelopeOf d i) refl
+  where
+    go : (w : Enveloped) → envelopeOf d i ≡ w → isWhole w ≡ enveloped (segments d i)
+    go (Whole v) q = sym (whole-is d i q .envelope)
+    go Broken q = sym (broken-is d i q)
+
+-- the number of the first test that fails: the end, the places, and the three of IEA
+tests-by : (a b c e f : ℕ) (t : Bool) (w : Enveloped) (x y z : Bool)
+    → checkBy a b c e f
+    (if t then placedBut w (if not x then trailers.NotTwoElements else (if not y then trailers.OtherControl else (if not z then trailers.OtherCount else trailers.None)))
+    else envelopes.Faulty NotTerminated)
+    ≡ first ((not t ⇒ a) ∷ ((not (isWhole w) ⇒ b) ∷ ((not x ⇒ c) ∷ ((not y ⇒ e) ∷ ((not z ⇒ f) ∷ [])))))
+unfolding first
+tests-by a b c e f false w x y z = refl
+tests-by a b c e f true Broken x y z = refl
+tests-by a b c e f true (Whole v) false y z = refl
+tests-by a b c e f true (Whole v) true false z = refl
+tests-by a b c e f true (Whole v) true true false = refl
+tests-by a b c e f true (Whole v) true true true = refl
+
+-- only a whole envelope is sound
+sound-placed : (w : Enveloped) (x : TrailerFault) {v : Envelope} → placedBut w x ≡ envelopes.Sound v → w ≡ Whole v
+sound-placed Broken x q = let z : _≡_ {A = ℕ} 0 1 = cc in absurd (omega arith)
+sound-placed (Whole u) trailers.None q = cc
+sound-placed (Whole u) trailers.NotTwoElements q = let z : _≡_ {A = ℕ} 0 1 = cc in absurd (omega arith)
+sound-placed (Whole u) trailers.OtherControl q = let z : _≡_ {A = ℕ} 0 1 = cc in absurd (omega arith)
+sound-placed (Whole u) trailers.OtherCount q = let z : _≡_ {A = ℕ} 0 1 = cc in absurd (omega arith)
+
+module _ (d : Delimiters) (i : Bytes) where
+  -- 8, by the bytes at the place of IEA
+  pub trailer-checked : (v : Envelope) {iea isa13 : Bytes} {x : TrailerFault} → x ≡ trailerFault (split (d .element) iea) 1 isa13
+      → iea ≡ part i (v .iea) (v .«iea_end») → isa13 ≡ field (isa i) 13 → soundBut v x ≡ trailerCheck d i v
+  unfolding trailerCheck
+  trailer-checked v p q r = rw (p, q, r)
+
+  -- 6
+  pub unterminated : {n : ℕ} → n ≡ first (endRules d i) → (n ≡ 0 → ⊥) → envelopes.Faulty NotTerminated ≡ envelopeCheck d i
+  unfolding envelopeCheck endRules first
+  unterminated p h = go (isTerminated d i) refl
+    where
+      go : (b : Bool) → isTerminated d i ≡ b → envelopes.Faulty NotTerminated ≡ envelopeCheck d i
+      go true q = absurd (h (p ∙ rw q))
+      go false q = rw q
+
+  module _ {n : ℕ} (p : n ≡ first (endRules d i)) (z : n ≡ 0) where
+    terminated : isTerminated d i ≡ true
+    unfolding endRules first
+    terminated = go (isTerminated d i) refl
+      where
+        go : (b : Bool) → isTerminated d i ≡ b → b ≡ true
+        go true q = refl
+        go false q = let six : _≡_ {A = ℕ} 0 6 = sym z ∙ p ∙ rw q in absurd (omega arith)
+
+    -- 7
+    pub misplaced : envelopeOf d i ≡ Broken → envelopes.Faulty OutOfPlace ≡ envelopeCheck d i
+    unfolding envelopeCheck
+    misplaced w = rw (terminated, w)
+
+    -- past them, what is read of IEA at its place is what the law reads
+    pub placed : {v : Envelope} → envelopeOf d i ≡ Whole v → trailerCheck d i v ≡ envelopeCheck d i
+    unfolding envelopeCheck trailerCheck
+    placed w = rw (terminated, w, whole-is d i w .trailer)
+
+  -- With a number for each test, that of the check is that of the first test that fails.
+  pub check-by : (a b c e f : ℕ)
+      → let ss = segments d i in
+      let iea = last [] ss in
+      checkBy a b c e f (envelopeCheck d i)
+      ≡ first (
+      (not (isTerminated d i) ⇒ a)
+      ∷ ((not (enveloped ss) ⇒ b)
+      ∷ ((not (hasTwo iea) ⇒ c)
+      ∷ ((not (closes iea (field (isa i) 13)) ⇒ e)
+      ∷ ((not (countsGroups 1 iea) ⇒ f)
+      ∷ [])))))
+  unfolding envelopeCheck trailerFault
+  check-by a b c e f =
+      let iea = last [] (segments d i) in
+      tests-by a b c e f (isTerminated d i) (envelopeOf d i) (hasTwo iea) (closes iea (field (isa i) 13)) (countsGroups 1 iea)
+      ∙ rw (whole-enveloped d i)
+
+  -- With the numbers of document 01, that is the first of its rules.
+  pub check-refusal : let ss = segments d i in
+      checkBy 6 7 8 8 8 (envelopeCheck d i)
+      ≡ first (endRules d i ++ envelopeRules ss ++ trailerRules (last [] ss) 1 (field (isa i) 13))
+  unfolding endRules envelopeRules trailerRules
+  check-refusal = check-by 6 7 8 8 8
+
+  -- a sound check has the envelope of the interchange
+  check-sound : {v : Envelope} → envelopeCheck d i ≡ envelopes.Sound v → envelopeOf d i ≡ Whole v
+  unfolding envelopeCheck
+  check-sound {v} q = go (isTerminated d i) refl
+    where
+      go : (t : Bool) → isTerminated d i ≡ t → envelopeOf d i ≡ Whole v
+      go true p = sound-placed _ _ (rw p at q)
+      go false p = let z = rw p at q in let z : _≡_ {A = ℕ} 0 1 = cc in absurd (omega arith)
+
+-- 5. Refusals 1 to 13.
 -- the refusal decides
 unless-refused : (d : Delimiters) (i : Bytes) {n m : ℕ} → m ≡ n → (m ≡ 0 → ⊥) → Refused m ≡ soundUnless n d i
 unless-refused d i {m = m} e h = rw (← e, ne-eqb m 0 h)
 
-unless-sound : (d : Delimiters) (i : Bytes) {n : ℕ} {e : Envelope} → 0 ≡ n → envelopeOf d i ≡ Whole e → Sound d e ≡ soundUnless n d i
+unless-sound : (d : Delimiters) (i : Bytes) {n : ℕ} {v : Envelope} → 0 ≡ n → envelopeOf d i ≡ Whole v → Sound d v ≡ soundUnless n d i
 unless-sound d i z w = rw (← z, w)
 
-module _ (d : Delimiters) (i : Bytes) {n : ℕ} (p : n ≡ first (endRules d i)) where
-  -- 6
-  pub end-refused : (n ≡ 0 → ⊥) → Refused n ≡ checkedWith d i
-  unfolding checkedWith laterRefusal
-  end-refused h = unless-refused _ _ (here _ p h) h
+-- no fault goes without a refusal
+fault-refused : (x : EnvelopeFault) → faultRefusal x ≡ 0 → ⊥
+fault-refused NotTerminated z = omega arith
+fault-refused OutOfPlace z = omega arith
+fault-refused NotTwoElements z = omega arith
+fault-refused OtherControl z = omega arith
+fault-refused OtherCount z = omega arith
 
-  module _ (p₀ : n ≡ 0) where
-    -- 7
-    pub broken : envelopeOf d i ≡ Broken → Refused 7 ≡ checkedWith d i
-    unfolding checkedWith laterRefusal
-    broken w =
-        unless-refused _ _ (onward _ p p₀ (here _ (sym (broken-refused d i w)) (λ z. absurd (omega arith)))) (λ z. absurd (omega arith))
-
-    -- past the envelope, what lies in it decides
-    inner-decides : {m : ℕ} {e : Envelope} → envelopeOf d i ≡ Whole e → m ≡ innerRefusal d i e → m ≡ laterRefusal d i
-    unfolding laterRefusal
-    inner-decides w q = onward _ p p₀ (onward _ (sym (whole-passes d i w)) refl (q ∙ inner-is (whole-is d i w)))
-
-    -- 8 to 13, or none
-    pub inner-refused : {m : ℕ} {e : Envelope} → envelopeOf d i ≡ Whole e → m ≡ innerRefusal d i e → (m ≡ 0 → ⊥) → Refused m ≡ checkedWith d i
-    unfolding checkedWith
-    inner-refused w q h = unless-refused _ _ (inner-decides w q) h
-
-    pub inner-sound : {m : ℕ} {e : Envelope} → envelopeOf d i ≡ Whole e → m ≡ innerRefusal d i e → m ≡ 0 → Sound d e ≡ checkedWith d i
-    unfolding checkedWith
-    inner-sound w q z = unless-sound _ _ (sym z ∙ inner-decides w q) w
-
--- 4. Refusals 1 to 13.
 module _ (i : Bytes) (call : Call) where
-  refusal-later : refusal i call ≡ firstOf (first (callRules call) ∷ (first (headRules i) ∷ (laterRefusal (delimiters i) i ∷ [])))
-  unfolding laterRefusal firstOf
-  refusal-later = refusal-blocks i call ∙ rw (← only {n = laterRefusal (delimiters i) i} refl)
+  -- the stages: the call and ISA, the envelope, the group
+  staged : let d = delimiters i in
+      refusal i call
+      ≡ firstOf (
+      first (callRules call ++ headRules i)
+      ∷ (checkBy 6 7 8 8 8 (envelopeCheck d i)
+      ∷ (first (groupRules d (groupOf (segments d i)))
+      ∷ [])))
+  unfolding refusal refusalRules callRules headRules endRules envelopeRules trailerRules
+  staged =
+      let d = delimiters i in
+      let ss = segments d i in
+      block (callRules call ++ headRules i) _ _ tt refl
+      (block (endRules d i ++ envelopeRules ss ++ trailerRules (last [] ss) 1 (field (isa i) 13)) _ _ tt (check-refusal d i) (only refl))
 
-  module _ {n : ℕ} (p : n ≡ first (callRules call)) where
-    -- 1
-    pub call-refused : (n ≡ 0 → ⊥) → Refused n ≡ checked i call
+  -- 1 to 5
+  pub head-refuses : {n : ℕ} → headChecked i call ≡ isas.Refused n → Refused n ≡ checked i call
+  unfolding checked
+  head-refuses e = let due = head-refused i call e in unless-refused _ _ (here _ (due .0) (due .1) ∙ sym staged) (due .1)
+
+  module _ {d : Delimiters} (s : headChecked i call ≡ isas.Sound d) where
+    -- past them, the envelope and the group decide
+    past-head : {n : ℕ} → n ≡ firstOf (checkBy 6 7 8 8 8 (envelopeCheck d i) ∷ (first (groupRules d (groupOf (segments d i))) ∷ []))
+        → n ≡ refusal i call
+    past-head q = let sound = head-sound i call s in onward _ refl (sound .0) (q ∙ rw (sound .1)) ∙ sym staged
+
+    -- 6 to 8
+    pub envelope-refuses : {x : EnvelopeFault} {n : ℕ} → envelopeCheck d i ≡ envelopes.Faulty x → n ≡ faultRefusal x → Refused n ≡ checked i call
     unfolding checked
-    call-refused h = unless-refused _ _ (here _ p h ∙ sym refusal-later) h
+    envelope-refuses {x} {n} e p =
+        let due : n ≡ 0 → ⊥ = λ z. fault-refused x (sym p ∙ z) in
+        unless-refused _ _ (past-head (here _ (p ∙ rw e) due)) due
 
-    module _ (p₀ : n ≡ 0) where
-      -- 2 to 5
-      pub isa-refuses : {m : ℕ} → isaOf i ≡ isas.Refused m → Refused m ≡ checked i call
+    module _ {v : Envelope} (e : envelopeCheck d i ≡ envelopes.Sound v) {n : ℕ} (p : n ≡ first (groupRules d (groupAt d i (v .group)))) where
+      -- past them, the group decides
+      group-decides : n ≡ refusal i call
+      group-decides = past-head (onward _ refl (rw e) (only (p ∙ rw (whole-is d i (check-sound d i e) .place .group))))
+
+      -- 9 to 13, or none
+      pub group-refuses : (n ≡ 0 → ⊥) → Refused n ≡ checked i call
       unfolding checked
-      isa-refuses e =
-          let due = isa-refused i e in
-          unless-refused _ _ (onward _ p p₀ (here _ (due .0) (due .1)) ∙ sym refusal-later) (due .1)
+      group-refuses h = unless-refused _ _ group-decides h
 
-      -- past ISA, the interchange with its delimiters decides
-      pub delimited : {d : Delimiters} → isaOf i ≡ isas.Sound d → checkedWith d i ≡ checked i call
-      unfolding checked checkedWith
-      delimited e =
-          let s = isa-sound i e in
-          rw (s .1, onward _ p p₀ (onward _ refl (s .0) (only refl)) ∙ sym refusal-later)
+      pub none-refuses : n ≡ 0 → Sound d v ≡ checked i call
+      unfolding checked
+      none-refuses z = rw (← head-sound i call s .1) (unless-sound d i (sym z ∙ group-decides) (check-sound d i e))
 
--- 5. What an answer of the checks says.
+-- 6. What an answer of the checks says.
 -- a sound answer has the envelope, and only a broken one is refused
 sound-whole : (w : Enveloped) {d d′ : Delimiters} {e : Envelope} → Sound d e ≡ soundIn d′ w → (d ≡ d′) × (w ≡ Whole e)
 sound-whole (Whole g) q = (cc, cc)

@@ -1,40 +1,72 @@
 -- What the checks of an interchange come to.
 use Prim.Native.Nat.{ℕ}
-use mathlib.Core.List.{[], _∷_}
+use mathlib.Core.List.{[], _++_}
 use lib.Dec.{eqb}
 use Rattle.rules.specs.Base.{Bytes, first, last, if_then_else_}
 use Rattle.rules.specs.Cutting.{field, isa, delimiters, split, segments}
-use Rattle.rules.specs.Groups.{groupOf}
-use Rattle.rules.specs.Refusals.{endRules, envelopeRules, trailerRules, groupRules, refusal}
+use Rattle.rules.specs.Refusals.{callRules, headRules, isTerminated, refusal}
 use Rattle.rules.specs.declared.Call.{Call}
 use Rattle.rules.specs.declared.Delimiters.{Delimiters}
-use Rattle.rules.proofs.Facts.{firstOf}
+use Rattle.isa.specs.Delimited as delimited
+use Rattle.isa.specs.declared.Isa.{Isa}
 use Rattle.text.specs.Text.{part}
-use Rattle.envelope.specs.Places.{groupAt, envelopeOf}
+use Rattle.envelope.specs.Places.{envelopeOf}
+use Rattle.envelope.specs.Faults.{trailerFault}
 use Rattle.envelope.specs.declared.Envelope.{Envelope}
 use Rattle.envelope.specs.declared.Enveloped.{Enveloped}
 use Rattle.envelope.specs.declared.Enveloped.the-variants.{Whole, Broken}
+use Rattle.envelope.specs.declared.TrailerFault.{TrailerFault}
+use Rattle.envelope.specs.declared.TrailerFault.the-variants as trailers
+use Rattle.refusals.specs.declared.EnvelopeFault.{EnvelopeFault}
+use Rattle.refusals.specs.declared.EnvelopeFault.the-variants.{NotTerminated, OutOfPlace, NotTwoElements, OtherControl, OtherCount}
+use Rattle.refusals.specs.declared.EnvelopeCheck.{EnvelopeCheck}
+use Rattle.refusals.specs.declared.EnvelopeCheck.the-variants as envelopes
 use Rattle.refusals.specs.declared.Checked.{Checked}
 use Rattle.refusals.specs.declared.Checked.the-variants.{Sound, Refused}
 
--- refusals 8 to 13, of an interchange with this envelope
-unfoldable pub innerRefusal : Delimiters → Bytes → Envelope → ℕ
-innerRefusal d i e =
-    firstOf (
-    first (trailerRules (split (d .element) (part i (e .iea) (e .«iea_end»))) 1 (field (isa i) 13))
-    ∷ (first (groupRules d (groupAt d i (e .group)))
-    ∷ []))
+-- refusals 1 to 5: the delimiters of an interchange that they let pass
+unfoldable pub headChecked : Bytes → Call → Isa
+headChecked i call = delimited.soundUnless (first (callRules call ++ headRules i)) (delimiters i)
 
--- refusals 6 to 13, of an interchange with these delimiters
-unfoldable pub laterRefusal : Delimiters → Bytes → ℕ
-laterRefusal d i =
-    let ss = segments d i in
-    firstOf (
-    first (endRules d i)
-    ∷ (first (envelopeRules ss)
-    ∷ (first (trailerRules (last [] ss) 1 (field (isa i) 13))
-    ∷ (first (groupRules d (groupOf ss))
-    ∷ []))))
+-- the number of a fault, where each test has one
+abbrev pub faultBy : ℕ → ℕ → ℕ → ℕ → ℕ → EnvelopeFault → ℕ
+faultBy a b c e f NotTerminated = a
+faultBy a b c e f OutOfPlace = b
+faultBy a b c e f NotTwoElements = c
+faultBy a b c e f OtherControl = e
+faultBy a b c e f OtherCount = f
+
+-- the same of a check, 0 where it is sound
+abbrev pub checkBy : ℕ → ℕ → ℕ → ℕ → ℕ → EnvelopeCheck → ℕ
+checkBy a b c e f (envelopes.Sound v) = 0
+checkBy a b c e f (envelopes.Faulty x) = faultBy a b c e f x
+
+-- document 01's number for each fault
+abbrev pub faultRefusal : EnvelopeFault → ℕ
+faultRefusal = faultBy 6 7 8 8 8
+
+-- this envelope, unless something is wrong with IEA
+abbrev pub soundBut : Envelope → TrailerFault → EnvelopeCheck
+soundBut e trailers.None = envelopes.Sound e
+soundBut e trailers.NotTwoElements = envelopes.Faulty NotTwoElements
+soundBut e trailers.OtherControl = envelopes.Faulty OtherControl
+soundBut e trailers.OtherCount = envelopes.Faulty OtherCount
+
+-- the same, where the envelope may be broken
+abbrev pub placedBut : Enveloped → TrailerFault → EnvelopeCheck
+placedBut (Whole e) f = soundBut e f
+placedBut Broken f = envelopes.Faulty OutOfPlace
+
+-- the tests of 8, of an interchange with this envelope
+unfoldable pub trailerCheck : Delimiters → Bytes → Envelope → EnvelopeCheck
+trailerCheck d i e =
+    soundBut e (trailerFault (split (d .element) (part i (e .iea) (e .«iea_end»))) 1 (field (isa i) 13))
+
+-- the first of the tests of 6 to 8 that fails, or the envelope where none does
+unfoldable pub envelopeCheck : Delimiters → Bytes → EnvelopeCheck
+envelopeCheck d i =
+    if isTerminated d i then placedBut (envelopeOf d i) (trailerFault (last [] (segments d i)) 1 (field (isa i) 13))
+    else envelopes.Faulty NotTerminated
 
 abbrev pub soundIn : Delimiters → Enveloped → Checked
 soundIn d (Whole e) = Sound d e
@@ -43,9 +75,6 @@ soundIn d Broken = Refused 7
 -- the refusal, or the delimiters and the envelope where there is none
 abbrev pub soundUnless : ℕ → Delimiters → Bytes → Checked
 soundUnless n d i = if eqb n 0 then soundIn d (envelopeOf d i) else Refused n
-
-unfoldable pub checkedWith : Delimiters → Bytes → Checked
-checkedWith d i = soundUnless (laterRefusal d i) d i
 
 unfoldable pub checked : Bytes → Call → Checked
 checked i call = soundUnless (refusal i call) (delimiters i) i

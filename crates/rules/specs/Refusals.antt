@@ -52,8 +52,11 @@ headRules i =
     []
 
 -- 6: the last byte ends a segment
+abbrev pub isTerminated : Delimiters → Bytes → Bool
+isTerminated d i = eqb (last 0 i) (d .terminator)
+
 unfoldable pub endRules : Delimiters → Bytes → List Rule
-endRules d i = (not (eqb (last 0 i) (d .terminator)) ⇒ 6) ∷ []
+endRules d i = (not (isTerminated d i) ⇒ 6) ∷ []
 
 -- 7: ISA, GS, GE and IEA stand first, second, next to last and last, and nowhere else
 abbrev pub isEnvelope : Segment → Bool
