@@ -1,5 +1,18 @@
 /*
- * The acknowledgment of one X12 interchange: a 997, or the number of a refusal.
+ * The acknowledgment of one X12 interchange, by two functions:
+ *
+ *   x12_acknowledge              answers its functional group, with a 997
+ *   x12_acknowledge_interchange  answers its envelope, with a TA1, where the
+ *                                partner asks for it: ISA14 is 1
+ *
+ * Each writes a whole interchange, or returns the number of a refusal.
+ *
+ * So that partners learn that an envelope failed, call the second for every
+ * interchange; it returns 15 where the partner does not ask. Call the first for
+ * every interchange that no TA1 rejects. The two agree: where a TA1 is written,
+ * it says R exactly where x12_acknowledge, given numbers that are right, refuses
+ * with 6, 7 or 8. So a 997 is only written where a TA1 would say A. Give each
+ * response that you send a control number of its own.
  *
  * Link libacknowledgment.a (scripts/archive makes it) and nothing else but the
  * C library, of which memcpy and memset are used.
@@ -15,38 +28,32 @@ extern "C" {
 #endif
 
 /*
- * Answers `interchange`, from the first byte of ISA to the terminator of IEA,
- * with a functional acknowledgment in the buffer `response`.
+ * What both functions share.
  *
- *   date     of the response, as the number CCYYMMDD: 20240315; a day of the
- *            Gregorian calendar
- *   time     of the response, as the number HHMM: 930 is half past nine
- *   control  number of the response, 1 to 999999999
+ *   interchange  from the first byte of ISA to the terminator of IEA
+ *   response     the buffer that the response is written to
+ *   date         of the response, as the number CCYYMMDD: 20240315; a day of
+ *                the Gregorian calendar
+ *   time         of the response, as the number HHMM: 930 is half past nine
+ *   control      number of the response, 1 to 999999999
  *
  * Any bytes, any lengths and any numbers may be given; what is wrong with them
  * is told by the number that comes back:
  *
- *   0        answered. The response is the first *length bytes of the buffer;
- *            every byte after them is as lent. An AK4 with code 4, 5, 7, 8, 9
- *            or 10 shows the first 99 bytes of the element as received, unless
- *            the element has a byte that is not valid.
- *   1 to 13  refused. *length is 0 and the buffer is as lent.
- *   14       the response does not fit. *length is the length that it needs
- *            and the buffer is as lent: call again with a longer one.
+ *   0      answered. The response is the first *length bytes of the buffer;
+ *          every byte after them is as lent.
+ *   14     the response does not fit. *length is the length that it needs and
+ *          the buffer is as lent: call again with a longer one.
+ *   other  refused. *length is 0 and the buffer is as lent.
  *
  *    1  the date is no day, or time or control number is out of range
  *    2  the interchange has under 106 or over 65536 bytes
  *    3  it does not start with ISA and its separators
  *    4  two delimiters are equal, or one is a letter, a digit or a space
  *    5  a field of ISA is wrong
- *    6  the last byte is not the segment terminator
- *    7  ISA, GS, GE and IEA are not in their places
- *    8  IEA is wrong
- *    9  GS is wrong
- *   10  the group is itself an acknowledgment
- *   11  a segment of the group lies outside every transaction set
- *   12  the group has no transaction set
- *   13  ST01 or ST02 of a transaction set is wrong
+ *
+ * Each function has more numbers of its own, below. It tests in the order in
+ * which they are listed, 14 last, and returns the first that applies.
  *
  * The caller sees to this:
  *
@@ -57,16 +64,63 @@ extern "C" {
  *   - The interchange, the buffer and *length do not overlap, and nothing else
  *     writes to them during the call.
  *
- * A call allocates nothing, takes less than 70 KiB of stack (as measured on
- * x86-64), keeps nothing and reads nothing but what it is lent: threads may
- * call at the same time, each with a buffer of its own. The interchange is not
- * changed. The time grows with the length of the interchange
+ * A call allocates nothing, keeps nothing and reads nothing but what it is
+ * lent: threads may call at the same time, each with a buffer of its own. The
+ * interchange is not changed. The time grows with the length of the interchange
  * (docs/PERFORMANCE.md).
+ */
+
+/*
+ * Answers the group with a 997, whatever ISA14 is. An AK4 with code 4, 5, 7, 8,
+ * 9 or 10 shows the first 99 bytes of the element as received, unless the
+ * element has a byte that is not valid.
+ *
+ * Refuses with 1 to 5, and then:
+ *
+ *    6  the last byte is not the segment terminator
+ *    7  ISA, GS, GE and IEA are not in their places
+ *    8  IEA is wrong
+ *    9  GS is wrong
+ *   10  the group is itself an acknowledgment
+ *   11  a segment of the group lies outside every transaction set
+ *   12  the group has no transaction set
+ *   13  ST01 or ST02 of a transaction set is wrong
+ *   14  the response does not fit
+ *
+ * A call takes less than 70 KiB of stack (as measured on x86-64).
  */
 uint32_t x12_acknowledge(const uint8_t *interchange, size_t interchange_length,
                          uint8_t *response, size_t response_length,
                          uint32_t date, uint32_t time, uint32_t control,
                          size_t *length);
+
+/*
+ * Answers the envelope with a TA1. The response has 154 bytes, always: ISA, TA1
+ * and IEA. TA104, at offset 132, is A or R, and TA105, from offset 134 on, is
+ * the note code. What fails tests 6 to 8 is no refusal here:
+ *
+ *   A 000  the envelope is right. What the group holds is not looked at.
+ *   R 023  the last byte is not the segment terminator
+ *   R 022  ISA, GS, GE and IEA are not in their places, or IEA does not have
+ *          two elements
+ *   R 001  IEA02 is not ISA13
+ *   R 021  IEA01 is not the number of groups, 1, in one to five digits
+ *
+ * Of several faults the first in this list is told. TA101, TA102 and TA103 are
+ * ISA13, ISA09 and ISA10 as received.
+ *
+ * Refuses with 1 to 5, and then:
+ *
+ *   15  ISA14 is not 1
+ *   14  the response does not fit: the buffer has less than 154 bytes
+ *
+ * A call takes less than 1 KiB of stack (as measured on x86-64).
+ */
+uint32_t x12_acknowledge_interchange(const uint8_t *interchange,
+                                     size_t interchange_length,
+                                     uint8_t *response, size_t response_length,
+                                     uint32_t date, uint32_t time,
+                                     uint32_t control, size_t *length);
 
 #ifdef __cplusplus
 }

@@ -1,7 +1,27 @@
 //! Interchanges to be timed: what a partner sends all day, and the worst that fits.
 
+use acknowledgment::{interchange_number_and_length, number_and_length, Numbers};
+
+/// An entry, of the library and of the second program.
+#[derive(Clone, Copy)]
+pub struct Entry {
+    pub library: fn(&[u8], &mut [u8], Numbers) -> (u32, usize),
+    pub second: second::Entry,
+}
+
+const GROUP: Entry = Entry {
+    library: number_and_length,
+    second: second::answer,
+};
+
+const ENVELOPE: Entry = Entry {
+    library: interchange_number_and_length,
+    second: second::answer_interchange,
+};
+
 pub struct Input {
     pub name: String,
+    pub entry: Entry,
     pub interchange: Vec<u8>,
     /// The length of the buffer that is lent, and the caller's control number.
     pub room: usize,
@@ -16,6 +36,7 @@ pub const ROOM: usize = 4 << 20;
 fn input(name: impl Into<String>, interchange: impl Into<Vec<u8>>) -> Input {
     Input {
         name: name.into(),
+        entry: GROUP,
         interchange: interchange.into(),
         room: ROOM,
         control: 77,
@@ -189,4 +210,27 @@ pub fn refused() -> Vec<Input> {
     inputs[0].control = 0;
     inputs[13].room = 100;
     inputs
+}
+
+/// The same for a TA1, which ISA14 asks for.
+fn asking(name: impl Into<String>, interchange: String) -> Input {
+    Input {
+        entry: ENVELOPE,
+        ..input(name, interchange.replacen("*0*T*", "*1*T*", 1))
+    }
+}
+
+pub fn envelopes() -> Vec<Input> {
+    let clean = group(900, clean_set);
+    vec![
+        asking("TA1, 10 clean sets", group(10, clean_set)),
+        asking("TA1, 900 clean sets", clean.clone()),
+        asking("TA1, 60000 empty segments", one_set(&"~".repeat(60_000))),
+        asking("TA1, no terminator at the end", format!("{clean} ")),
+        Input {
+            entry: ENVELOPE,
+            number: 15,
+            ..input("TA1, refusal 15", clean)
+        },
+    ]
 }

@@ -2,7 +2,7 @@
 
 mod inputs;
 
-use acknowledgment::{number_and_length, Numbers};
+use acknowledgment::Numbers;
 use inputs::Input;
 use std::hint::black_box;
 use std::time::{Duration, Instant};
@@ -37,11 +37,12 @@ fn library(input: &Input, buffer: &mut [u8]) -> (u32, usize) {
         time: TIME,
         control: input.control,
     };
-    number_and_length(&input.interchange, &mut buffer[..input.room], numbers)
+    let room = &mut buffer[..input.room];
+    (input.entry.library)(&input.interchange, room, numbers)
 }
 
 fn second(input: &Input) -> second::Answer {
-    second::answer(&input.interchange, input.room, DATE, TIME, input.control)
+    (input.entry.second)(&input.interchange, input.room, DATE, TIME, input.control)
 }
 
 /// A time says nothing where the answers differ, or are not what they are meant to be.
@@ -88,7 +89,8 @@ fn main() {
     }
     println!("| Interchange | bytes | library, ns a byte | second, ns a byte | ratio |");
     println!("|---|---|---|---|---|");
-    for input in inputs::answered().iter().chain(&inputs::refused()) {
+    let inputs = [inputs::answered(), inputs::refused(), inputs::envelopes()];
+    for input in inputs.iter().flatten() {
         row(input, &mut buffer);
     }
 }

@@ -1,15 +1,18 @@
-//! The library against the second program, on generated cases.
+//! The library against the second program, and its two entries against each
+//! other, on generated cases.
 
-use crate::outcome::{of_second, Outcome};
+use crate::agreement::agree;
+use crate::outcome::{Outcome, Outcomes};
 use crate::show;
 use crate::shrink::shrunk;
 use crate::tally::Tally;
 use second::generator::Case;
 use std::io;
 
-/// Compares number, length and the whole buffer on the cases of a seed.
+/// Compares number, length and the whole buffer of both entries on the cases
+/// of a seed, and asks that the library's entries agree.
 pub fn compare(
-    library: impl Fn(&Case, u8) -> Outcome,
+    library: impl Fn(&Case, u8) -> Outcomes,
     seed: u64,
     count: u64,
     tally: &mut Tally,
@@ -18,12 +21,16 @@ pub fn compare(
         let case = Case::make(seed, index);
         // Another byte for each case, so that none can hide what was not written.
         let lent = index as u8;
-        let differs = |case: &Case| library(case, lent) != of_second(case, lent);
+        let differs = |case: &Case| {
+            let outcomes = library(case, lent);
+            outcomes != Outcomes::of_second(case, lent) || !agree(case, &outcomes)
+        };
         if differs(&case) {
             let name = format!("case-{seed}-{index}");
             tally.fail(&name, || {
                 let small = shrunk(&case, differs);
-                difference(&small, &library(&small, lent), &of_second(&small, lent))
+                let second = Outcomes::of_second(&small, lent);
+                difference(&small, &library(&small, lent), &second)
             })?;
         } else {
             tally.pass();
@@ -32,14 +39,27 @@ pub fn compare(
     Ok(())
 }
 
-fn difference(case: &Case, library: &Outcome, second: &Outcome) -> String {
+fn difference(case: &Case, library: &Outcomes, second: &Outcomes) -> String {
+    let agreement = if agree(case, library) {
+        "The library's entries agree."
+    } else {
+        "The library's entries do not agree."
+    };
+    format!(
+        "{}\nThe 997.\n{}\nThe TA1.\n{}\n{agreement}\n",
+        show::case(case),
+        answers(&library.acknowledgment, &second.acknowledgment),
+        answers(&library.interchange, &second.interchange),
+    )
+}
+
+fn answers(library: &Outcome, second: &Outcome) -> String {
     let first = match library.first_difference(second) {
         Some(at) => format!("The buffers differ from byte {at} on."),
         None => "The buffers are the same.".to_string(),
     };
     format!(
-        "{}\nThe second program: {}\nThe library: {}\n{first}\n",
-        show::case(case),
+        "The second program: {}\nThe library: {}\n{first}\n",
         show::outcome(second),
         show::outcome(library),
     )
@@ -53,23 +73,31 @@ mod tests {
 
     /// What the comparison says of a library that is the second program but
     /// for what `spoil` does, and where it wrote the differences.
-    fn told(name: &str, spoil: impl Fn(&Case, &mut Outcome)) -> (String, PathBuf) {
+    fn told(name: &str, spoil: impl Fn(&Case, &mut Outcomes)) -> (String, PathBuf) {
         let folder = std::env::temp_dir().join(format!("compare-{name}-{}", std::process::id()));
         let mut tally = Tally::new(&folder);
         let library = |case: &Case, lent: u8| {
-            let mut outcome = of_second(case, lent);
-            spoil(case, &mut outcome);
-            outcome
+            let mut outcomes = Outcomes::of_second(case, lent);
+            spoil(case, &mut outcomes);
+            outcomes
         };
         compare(library, 990, 300, &mut tally).unwrap();
         (tally.to_string(), folder)
     }
 
-    fn is_caught(name: &str, spoil: impl Fn(&Case, &mut Outcome)) {
-        let (told, folder) = told(name, spoil);
-        assert!(!told.ends_with(", 0 failed"), "{told}");
-        assert!(fs::read_dir(&folder).unwrap().count() > 0);
-        fs::remove_dir_all(folder).unwrap();
+    /// What `spoil` does to the outcome of one entry, with the other as it
+    /// should be, is caught.
+    fn is_caught(name: &str, spoil: impl Fn(&mut Outcome)) {
+        let of_997 = |_: &Case, outcomes: &mut Outcomes| spoil(&mut outcomes.acknowledgment);
+        let of_ta1 = |_: &Case, outcomes: &mut Outcomes| spoil(&mut outcomes.interchange);
+        for (told, folder) in [
+            told(&format!("{name}-997"), of_997),
+            told(&format!("{name}-ta1"), of_ta1),
+        ] {
+            assert!(!told.ends_with(", 0 failed"), "{told}");
+            assert!(fs::read_dir(&folder).unwrap().count() > 0);
+            fs::remove_dir_all(folder).unwrap();
+        }
     }
 
     #[test]
@@ -81,16 +109,16 @@ mod tests {
 
     #[test]
     fn another_number_is_caught() {
-        is_caught("number", |_, outcome| {
-            if outcome.number == 13 {
-                outcome.number = 12;
+        is_caught("number", |outcome| {
+            if outcome.number == 5 {
+                outcome.number = 4;
             }
         });
     }
 
     #[test]
     fn another_length_is_caught() {
-        is_caught("length", |_, outcome| {
+        is_caught("length", |outcome| {
             if outcome.number == 14 {
                 outcome.length = 0;
             }
@@ -99,7 +127,7 @@ mod tests {
 
     #[test]
     fn another_byte_of_the_response_is_caught() {
-        is_caught("byte", |_, outcome| {
+        is_caught("byte", |outcome| {
             if outcome.number == 0 {
                 let last = outcome.length - 1;
                 outcome.buffer_mut()[last] ^= 1;
@@ -109,7 +137,7 @@ mod tests {
 
     #[test]
     fn a_byte_written_behind_the_response_is_caught() {
-        is_caught("behind", |_, outcome| {
+        is_caught("behind", |outcome| {
             if outcome.number == 0 {
                 let length = outcome.length;
                 outcome.buffer_mut()[length..].fill(b'~');
@@ -119,7 +147,7 @@ mod tests {
 
     #[test]
     fn a_buffer_touched_by_a_refusal_is_caught() {
-        is_caught("touched", |_, outcome| {
+        is_caught("touched", |outcome| {
             if outcome.number != 0 {
                 outcome.buffer_mut().fill(b' ');
             }
@@ -129,9 +157,9 @@ mod tests {
     #[test]
     fn a_difference_is_shrunk_and_written_with_both_answers() {
         // Wrong for every interchange with a segment K1.
-        let (_, folder) = told("shrunk", |case, outcome| {
+        let (_, folder) = told("shrunk", |case, outcomes| {
             if case.interchange.windows(2).any(|id| id == b"K1") {
-                outcome.number = 99;
+                outcomes.interchange.number = 99;
             }
         });
         for file in fs::read_dir(&folder).unwrap() {
@@ -145,6 +173,10 @@ mod tests {
                 "{text}"
             );
             assert!(text.contains("The library: number 99, length 0"), "{text}");
+            assert!(
+                text.contains("The library's entries do not agree."),
+                "{text}"
+            );
         }
         fs::remove_dir_all(folder).unwrap();
     }

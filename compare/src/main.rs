@@ -1,5 +1,6 @@
-//! Holds the proved library and its program against the second program.
+//! Holds the proved library and its programs against the second program.
 
+mod agreement;
 mod cases;
 mod damage;
 mod outcome;
@@ -14,6 +15,10 @@ mod tally;
 #[cfg(test)]
 mod wrong;
 
+use acknowledgment::number_and_length;
+use outcome::Outcomes;
+use second::generator::Case;
+use second::{answer, answer_interchange};
 use std::io;
 use std::path::Path;
 use std::process::ExitCode;
@@ -22,7 +27,7 @@ use tally::Tally;
 const USAGE: &str = "\
 usage: compare cases [--seed S] [--count N]
        compare damage [--seed S] [--count N]
-       compare program PATH [--seed S] [--count N]";
+       compare program ack|ta1 PATH [--seed S] [--count N]";
 
 /// Where what went wrong is written.
 const DIFFERENCES: &str = "target/differences";
@@ -53,20 +58,31 @@ fn main() -> ExitCode {
 
 /// Nothing where the words are no command.
 fn run(words: &[&str], tally: &mut Tally) -> Option<io::Result<()>> {
-    let library = outcome::of_library;
     match words {
         ["cases", options @ ..] => {
             let (seed, count) = seed_and_count(options, 200_000)?;
-            Some(cases::compare(library, seed, count, tally))
+            Some(cases::compare(Outcomes::of_library, seed, count, tally))
         }
         ["damage", options @ ..] => {
             let (seed, count) = seed_and_count(options, 5_000)?;
+            let library =
+                |case: &Case, lent: u8| outcome::of_library(number_and_length, case, lent);
             Some(damage::check(library, seed, count, tally))
         }
-        ["program", path, options @ ..] => {
+        ["program", name, path, options @ ..] => {
+            let entry = entry_of(name)?;
             let (seed, count) = seed_and_count(options, 200)?;
-            Some(program::compare(path, seed, count, tally))
+            Some(program::compare(entry, path, seed, count, tally))
         }
+        _ => None,
+    }
+}
+
+/// The entry of the second program that a program is held against.
+fn entry_of(program: &str) -> Option<second::Entry> {
+    match program {
+        "ack" => Some(answer),
+        "ta1" => Some(answer_interchange),
         _ => None,
     }
 }

@@ -1,7 +1,8 @@
 //! What a call leaves behind, by the proved library and by the second program.
 
-use acknowledgment::{number_and_length, Numbers};
+use acknowledgment::{interchange_number_and_length, number_and_length, Numbers};
 use second::generator::Case;
+use second::{answer, answer_interchange};
 
 /// Bytes on both sides of a buffer that are not lent, and must stay.
 const MARGIN: usize = 64;
@@ -51,24 +52,52 @@ pub fn outcome(case: &Case, lent: u8, call: impl FnOnce(&mut [u8]) -> (u32, usiz
     }
 }
 
-pub fn of_library(case: &Case, lent: u8) -> Outcome {
+/// An entry of the library.
+type LibraryEntry = fn(&[u8], &mut [u8], Numbers) -> (u32, usize);
+
+pub fn of_library(entry: LibraryEntry, case: &Case, lent: u8) -> Outcome {
     let numbers = Numbers {
         date: case.date,
         time: case.time,
         control: case.control,
     };
     outcome(case, lent, |buffer| {
-        number_and_length(&case.interchange, buffer, numbers)
+        entry(&case.interchange, buffer, numbers)
     })
 }
 
-pub fn of_second(case: &Case, lent: u8) -> Outcome {
+pub fn of_second(entry: second::Entry, case: &Case, lent: u8) -> Outcome {
     outcome(case, lent, |buffer| {
-        let answer = case.answer();
+        let answer = case.answer_by(entry);
         let response = answer.response();
         buffer[..response.len()].copy_from_slice(response);
         (u32::from(answer.number()), answer.length())
     })
+}
+
+/// What both entries leave behind on the same case, each in a buffer of its own.
+#[derive(Debug, Clone, PartialEq, Eq)]
+pub struct Outcomes {
+    /// Of the entry that answers with a 997.
+    pub acknowledgment: Outcome,
+    /// Of the entry that answers with a TA1.
+    pub interchange: Outcome,
+}
+
+impl Outcomes {
+    pub fn of_library(case: &Case, lent: u8) -> Self {
+        Outcomes {
+            acknowledgment: of_library(number_and_length, case, lent),
+            interchange: of_library(interchange_number_and_length, case, lent),
+        }
+    }
+
+    pub fn of_second(case: &Case, lent: u8) -> Self {
+        Outcomes {
+            acknowledgment: of_second(answer, case, lent),
+            interchange: of_second(answer_interchange, case, lent),
+        }
+    }
 }
 
 #[cfg(test)]
@@ -78,7 +107,7 @@ mod tests {
     #[test]
     fn a_byte_written_outside_the_buffer_is_a_difference() {
         let case = Case::make(990, 0);
-        let outcome = of_second(&case, 0);
+        let outcome = of_second(answer, &case, 0);
         for outside in [MARGIN - 1, MARGIN + case.buffer_length] {
             let mut other = outcome.clone();
             other.memory[outside] = 1;

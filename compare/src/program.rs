@@ -1,16 +1,25 @@
-//! The program `ack` against the second program, on generated standard inputs.
+//! The programs `ack` and `ta1` against the second program, on generated
+//! standard inputs.
 
 use crate::tally::Tally;
 use second::exchange::exchange;
 use second::generator::standard_input;
+use second::Entry;
 use std::io::{self, ErrorKind, Write};
 use std::process::{Command, Output, Stdio};
 
-/// Compares what a program prints on the standard inputs of a seed.
-pub fn compare(program: &str, seed: u64, count: u64, tally: &mut Tally) -> io::Result<()> {
+/// Compares what the program of an entry prints on the standard inputs of a
+/// seed.
+pub fn compare(
+    entry: Entry,
+    program: &str,
+    seed: u64,
+    count: u64,
+    tally: &mut Tally,
+) -> io::Result<()> {
     for index in 0..count {
         let input = standard_input(seed, index);
-        let expected = exchange(&input);
+        let expected = exchange(entry, &input);
         let output = run(program, &input)?;
         if output.status.success() && output.stdout == expected {
             tally.pass();
@@ -51,23 +60,27 @@ fn difference(input: &[u8], expected: &[u8], output: &Output) -> String {
 #[cfg(test)]
 mod tests {
     use super::*;
+    use second::{answer, answer_interchange};
     use std::fs;
 
-    fn told(program: &str) -> String {
-        let folder = std::env::temp_dir().join(format!("compare-{program}-{}", std::process::id()));
-        let mut tally = Tally::new(&folder);
-        compare(program, 990, 20, &mut tally).unwrap();
-        fs::remove_dir_all(folder).unwrap();
-        tally.to_string()
+    fn told(program: &str) -> [String; 2] {
+        [("ack", answer as Entry), ("ta1", answer_interchange)].map(|(name, entry)| {
+            let process = std::process::id();
+            let folder = std::env::temp_dir().join(format!("compare-{name}-{program}-{process}"));
+            let mut tally = Tally::new(&folder);
+            compare(entry, program, 990, 20, &mut tally).unwrap();
+            fs::remove_dir_all(folder).unwrap();
+            tally.to_string()
+        })
     }
 
     #[test]
     fn a_program_that_prints_something_else_is_caught() {
-        assert_eq!(told("cat"), "0 passed, 20 failed");
+        assert_eq!(told("cat"), ["0 passed, 20 failed"; 2]);
     }
 
     #[test]
     fn a_program_that_prints_nothing_is_caught() {
-        assert_eq!(told("true"), "0 passed, 20 failed");
+        assert_eq!(told("true"), ["0 passed, 20 failed"; 2]);
     }
 }

@@ -3,13 +3,14 @@
 //! Each is the second program, but sees other segments than there are, or
 //! tells other segments than it should.
 
-use crate::outcome::{of_second, outcome};
+use crate::outcome::{of_second, outcome, Outcome};
 use crate::segments::{cut, joined, number, Segments};
 use second::generator::{Case, Family};
 use std::collections::hash_map::{Entry, HashMap};
 
 mod calendars;
 mod echoes;
+mod interchanges;
 
 /// What the gate compares: `compare cases --seed 1 --count 200000`.
 const SEED: u64 = 1;
@@ -17,6 +18,9 @@ const COUNT: u64 = 200_000;
 
 /// So many cases must show a wrong program.
 const SEVERAL: usize = 10;
+
+/// What every byte of a buffer holds that was not written.
+const LENT: u8 = 0;
 
 /// How the second program is made wrong.
 struct Wrong<S, T> {
@@ -55,8 +59,12 @@ impl<S: Fn(&mut Segments) -> bool, T: Fn(&[Vec<u8>], &mut Segments)> Wrong<S, T>
 
 /// Whether a program that sends this response is another than the second one.
 fn differs(case: &Case, response: &[u8]) -> bool {
-    let lent = 0;
-    let sent = outcome(case, lent, |buffer| {
+    sending(case, response) != of_second(second::answer, case, LENT)
+}
+
+/// What a program leaves behind that sends this response, if it fits.
+fn sending(case: &Case, response: &[u8]) -> Outcome {
+    outcome(case, LENT, |buffer| {
         match buffer.get_mut(..response.len()) {
             None => (14, response.len()),
             Some(start) => {
@@ -64,8 +72,7 @@ fn differs(case: &Case, response: &[u8]) -> bool {
                 (0, response.len())
             }
         }
-    });
-    sent != of_second(case, lent)
+    })
 }
 
 /// How many of the gate's cases of a family differ, up to `SEVERAL`.

@@ -1,7 +1,31 @@
-//! The acknowledgment of one X12 interchange: a 997, or the number of a refusal. `include/acknowledgment.h` says all about it.
+//! The acknowledgment of one X12 interchange: of its group with a 997, of its envelope with a TA1, or the number of a
+//! refusal. `include/acknowledgment.h` says all about it.
+
+/// The type of both entries in C.
+type Entry = unsafe extern "C" fn(
+    interchange: *const u8,
+    interchange_length: usize,
+    response: *mut u8,
+    response_length: usize,
+    date: u32,
+    time: u32,
+    control: u32,
+    length: *mut usize,
+) -> u32;
 
 extern "C" {
     fn x12_acknowledge(
+        interchange: *const u8,
+        interchange_length: usize,
+        response: *mut u8,
+        response_length: usize,
+        date: u32,
+        time: u32,
+        control: u32,
+        length: *mut usize,
+    ) -> u32;
+
+    fn x12_acknowledge_interchange(
         interchange: *const u8,
         interchange_length: usize,
         response: *mut u8,
@@ -25,7 +49,8 @@ pub struct Numbers {
 /// Why there is no response.
 #[derive(Debug, Clone, Copy, PartialEq, Eq)]
 pub enum Refusal {
-    /// Refusal 1 to 13.
+    /// Refusal 1 to 13 of `acknowledge`, 1 to 5 or 15 of
+    /// `acknowledge_interchange`.
     Numbered(u32),
     /// Refusal 14: the response needs a buffer of this length.
     BufferTooShort { needed: usize },
@@ -40,28 +65,58 @@ impl Refusal {
     }
 }
 
-/// Answers an interchange. The response is the part of `buffer` that is given
-/// back; a refusal leaves `buffer` as it was. Where a value is wrong, its AK4
-/// shows at most the first 99 bytes that were received.
+/// Answers an interchange with a 997. The response is the part of `buffer` that
+/// is given back; a refusal leaves `buffer` as it was. Where a value is wrong,
+/// its AK4 shows at most the first 99 bytes that were received.
 pub fn acknowledge<'a>(
     interchange: &[u8],
     buffer: &'a mut [u8],
     numbers: Numbers,
 ) -> Result<&'a [u8], Refusal> {
-    match number_and_length(interchange, buffer, numbers) {
-        (0, length) => Ok(&buffer[..length]),
-        (14, needed) => Err(Refusal::BufferTooShort { needed }),
-        (number, _) => Err(Refusal::Numbered(number)),
+    let answer = number_and_length(interchange, buffer, numbers);
+    response(answer, buffer)
+}
+
+/// Answers an interchange whose ISA14 is `1` with a TA1: `A` where its envelope
+/// is good, `R` and a note code where it is not. The response is the part of
+/// `buffer` that is given back, 154 bytes; a refusal leaves `buffer` as it was.
+pub fn acknowledge_interchange<'a>(
+    interchange: &[u8],
+    buffer: &'a mut [u8],
+    numbers: Numbers,
+) -> Result<&'a [u8], Refusal> {
+    let answer = interchange_number_and_length(interchange, buffer, numbers);
+    response(answer, buffer)
+}
+
+/// The answer of `acknowledge` as it comes back from the library.
+pub fn number_and_length(interchange: &[u8], buffer: &mut [u8], numbers: Numbers) -> (u32, usize) {
+    call(x12_acknowledge, interchange, buffer, numbers)
+}
+
+/// The answer of `acknowledge_interchange` as it comes back from the library.
+pub fn interchange_number_and_length(
+    interchange: &[u8],
+    buffer: &mut [u8],
+    numbers: Numbers,
+) -> (u32, usize) {
+    call(x12_acknowledge_interchange, interchange, buffer, numbers)
+}
+
+fn response((number, length): (u32, usize), buffer: &[u8]) -> Result<&[u8], Refusal> {
+    match number {
+        0 => Ok(&buffer[..length]),
+        14 => Err(Refusal::BufferTooShort { needed: length }),
+        _ => Err(Refusal::Numbered(number)),
     }
 }
 
-/// The same as it comes back from the library.
-pub fn number_and_length(interchange: &[u8], buffer: &mut [u8], numbers: Numbers) -> (u32, usize) {
+fn call(entry: Entry, interchange: &[u8], buffer: &mut [u8], numbers: Numbers) -> (u32, usize) {
     let mut length = usize::MAX;
     // SAFETY: each pointer goes with the length of its slice, is not null even
     // for an empty one, and what is borrowed mutably overlaps with nothing.
     let number = unsafe {
-        x12_acknowledge(
+        entry(
             interchange.as_ptr(),
             interchange.len(),
             buffer.as_mut_ptr(),

@@ -1,39 +1,9 @@
-//! What the wrapper makes of the library's answers.
+//! What the wrapper makes of the library's answers with a 997.
+
+mod common;
 
 use acknowledgment::{acknowledge, number_and_length, Numbers, Refusal};
-use std::collections::BTreeSet;
-use std::fs;
-use std::path::Path;
-
-/// What every byte of a buffer holds that was not written.
-const LENT: u8 = 0xA5;
-
-const NUMBERS: Numbers = Numbers {
-    date: 20240315,
-    time: 930,
-    control: 77,
-};
-
-fn file(name: &str) -> Vec<u8> {
-    let root = Path::new(env!("CARGO_MANIFEST_DIR")).join("..");
-    fs::read(root.join(name)).unwrap()
-}
-
-/// The numbers of a first line that has three, and what follows it.
-fn split(exchange: &[u8]) -> Option<(Numbers, &[u8])> {
-    let line_feed = exchange.iter().position(|&byte| byte == b'\n')?;
-    let line = std::str::from_utf8(&exchange[..line_feed]).ok()?;
-    let fields: Option<Vec<u32>> = line.split(' ').map(|field| field.parse().ok()).collect();
-    let [date, time, control] = fields?[..] else {
-        return None;
-    };
-    let numbers = Numbers {
-        date,
-        time,
-        control,
-    };
-    Some((numbers, &exchange[line_feed + 1..]))
-}
+use common::{answers_of_cases, file, split, LENT, NUMBERS};
 
 /// The interchange of the sample, and its response.
 fn sample() -> (Vec<u8>, Vec<u8>) {
@@ -110,34 +80,8 @@ fn nothing_may_be_lent() {
     assert_eq!(number_and_length(&[], &mut [], NUMBERS), (2, 0));
 }
 
-/// Every case that is a call, by its file; each refusal is among them.
 #[test]
 fn every_case_gets_its_answer() {
-    let folder = Path::new(env!("CARGO_MANIFEST_DIR")).join("../cases");
-    let mut seen = BTreeSet::new();
-    for entry in fs::read_dir(folder).unwrap() {
-        let path = entry.unwrap().path();
-        let name = path.file_name().unwrap().to_str().unwrap();
-        if !name.ends_with(".in") || name.starts_with("first-line-") {
-            continue;
-        }
-        let exchange = fs::read(&path).unwrap();
-        let (numbers, interchange) = split(&exchange).unwrap();
-        let mut buffer = [LENT; 65_536];
-        let printed = match acknowledge(interchange, &mut buffer, numbers) {
-            Ok(response) => {
-                seen.insert(0);
-                response.to_vec()
-            }
-            Err(refusal) => {
-                seen.insert(refusal.number());
-                format!("refused {}\n", refusal.number()).into_bytes()
-            }
-        };
-        assert!(
-            printed == fs::read(path.with_extension("out")).unwrap(),
-            "{name}"
-        );
-    }
+    let seen = answers_of_cases("cases", acknowledge);
     assert_eq!(seen, (0..=14).collect());
 }

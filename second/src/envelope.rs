@@ -6,6 +6,31 @@ use crate::refusal::Refusal;
 use crate::segment::{cut_segments, Segment};
 use crate::values::decimal;
 
+/// What is wrong with an envelope, in the order of checking.
+#[derive(Debug, Clone, Copy, PartialEq, Eq)]
+pub enum EnvelopeFault {
+    LastByte,
+    Order,
+    /// IEA has not exactly two elements.
+    IeaElements,
+    /// IEA02 differs from ISA13.
+    IeaControlNumber,
+    /// IEA01 is not 1 to 5 digits of value 1.
+    IeaGroupCount,
+}
+
+impl From<EnvelopeFault> for Refusal {
+    fn from(fault: EnvelopeFault) -> Self {
+        match fault {
+            EnvelopeFault::LastByte => Refusal::LastByte,
+            EnvelopeFault::Order => Refusal::EnvelopeOrder,
+            EnvelopeFault::IeaElements
+            | EnvelopeFault::IeaControlNumber
+            | EnvelopeFault::IeaGroupCount => Refusal::Iea,
+        }
+    }
+}
+
 /// The segments of an interchange whose envelope is sound.
 pub struct Envelope<'a> {
     /// From GS to IEA.
@@ -13,13 +38,13 @@ pub struct Envelope<'a> {
 }
 
 impl<'a> Envelope<'a> {
-    pub fn read(interchange: &'a [u8], isa: &Isa) -> Result<Self, Refusal> {
+    pub fn read(interchange: &'a [u8], isa: &Isa) -> Result<Self, EnvelopeFault> {
         if interchange.last() != Some(&isa.delimiters.terminator) {
-            return Err(Refusal::LastByte);
+            return Err(EnvelopeFault::LastByte);
         }
         let segments = cut_segments(&interchange[ISA_LENGTH..], &isa.delimiters);
         if !in_envelope_order(&segments) {
-            return Err(Refusal::EnvelopeOrder);
+            return Err(EnvelopeFault::Order);
         }
         let envelope = Envelope { segments };
         envelope.check_iea(isa)?;
@@ -48,12 +73,16 @@ impl<'a> Envelope<'a> {
         &self.segments[self.segments.len() - 1]
     }
 
-    fn check_iea(&self, isa: &Isa) -> Result<(), Refusal> {
+    fn check_iea(&self, isa: &Isa) -> Result<(), EnvelopeFault> {
         let iea = self.iea();
-        let one_group = decimal(iea.element(1), 5) == Some(1);
-        let same_control_number = iea.element(2) == isa.control_number();
-        if iea.elements.len() != 2 || !one_group || !same_control_number {
-            return Err(Refusal::Iea);
+        if iea.elements.len() != 2 {
+            return Err(EnvelopeFault::IeaElements);
+        }
+        if iea.element(2) != isa.control_number() {
+            return Err(EnvelopeFault::IeaControlNumber);
+        }
+        if decimal(iea.element(1), 5) != Some(1) {
+            return Err(EnvelopeFault::IeaGroupCount);
         }
         Ok(())
     }

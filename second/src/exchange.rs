@@ -1,24 +1,24 @@
-//! The whole exchange, as the program `ack` does it.
+//! The whole exchange, as the programs `ack` and `ta1` do it.
 
 use crate::refusal::Refusal;
 use crate::values::decimal;
-use crate::{answer, Answer};
+use crate::{Answer, Entry};
 
 /// The length of the buffer the program lends for the response.
 pub const RESPONSE_BUFFER: usize = 65_536;
 
-/// What is printed for what was read on standard input.
-pub fn exchange(standard_input: &[u8]) -> Vec<u8> {
-    match answer_input(standard_input) {
+/// What the program of an entry prints for what it read on standard input.
+pub fn exchange(entry: Entry, standard_input: &[u8]) -> Vec<u8> {
+    match answer_input(entry, standard_input) {
         Answer::Acknowledged(response) => response,
         Answer::Refused(refusal) => format!("refused {}\n", refusal.number()).into_bytes(),
     }
 }
 
-fn answer_input(standard_input: &[u8]) -> Answer {
+fn answer_input(entry: Entry, standard_input: &[u8]) -> Answer {
     match read_input(standard_input) {
         Some(([date, time, control], interchange)) => {
-            answer(interchange, RESPONSE_BUFFER, date, time, control)
+            entry(interchange, RESPONSE_BUFFER, date, time, control)
         }
         None => Answer::Refused(Refusal::CallerNumbers),
     }

@@ -80,9 +80,24 @@ impl<'a> Isa<'a> {
         self.field(8)
     }
 
+    /// ISA09
+    pub fn date(&self) -> &'a [u8] {
+        self.field(9)
+    }
+
+    /// ISA10
+    pub fn time(&self) -> &'a [u8] {
+        self.field(10)
+    }
+
     /// ISA13
     pub fn control_number(&self) -> &'a [u8] {
         self.field(13)
+    }
+
+    /// ISA14
+    pub fn acknowledgment_requested(&self) -> &'a [u8] {
+        self.field(14)
     }
 
     /// ISA15

@@ -1,5 +1,6 @@
 //! Answers one X12 interchange holding one functional group of transaction
-//! set 990 with a functional acknowledgment (997) or a refusal number.
+//! set 990 with a functional acknowledgment (997) or a refusal number, and its
+//! envelope with an interchange acknowledgment (TA1) or a refusal number.
 //!
 //! Written from document 01 and the change requests alone, to be compared with
 //! the proved program.
@@ -11,6 +12,7 @@ pub mod envelope;
 pub mod exchange;
 pub mod generator;
 pub mod group_header;
+pub mod interchange_acknowledgment;
 pub mod isa;
 pub mod refusal;
 pub mod response;
@@ -24,6 +26,7 @@ pub mod verdicts;
 use caller::CallerNumbers;
 use envelope::Envelope;
 use group_header::GroupHeader;
+use interchange_acknowledgment::acknowledge_interchange;
 use isa::Isa;
 use refusal::Refusal;
 use transaction_set::TransactionSet;
@@ -64,9 +67,11 @@ impl Answer {
     }
 }
 
-/// Answers `interchange` as of the caller's `date` (CCYYMMDD) and `time`
-/// (HHMM) under the caller's `control` number, into a buffer of
-/// `buffer_length` bytes.
+/// An entry answers an interchange as of the caller's date (CCYYMMDD) and time
+/// (HHMM) under the caller's control number, into a buffer of so many bytes.
+pub type Entry = fn(&[u8], usize, u32, u32, u32) -> Answer;
+
+/// The entry that answers the group with a 997.
 pub fn answer(
     interchange: &[u8],
     buffer_length: usize,
@@ -74,29 +79,39 @@ pub fn answer(
     time: u32,
     control: u32,
 ) -> Answer {
-    match acknowledge(interchange, buffer_length, date, time, control) {
-        Ok(response) => Answer::Acknowledged(response),
-        Err(refusal) => Answer::Refused(refusal),
-    }
+    fitting(acknowledge(interchange, date, time, control), buffer_length)
 }
 
-fn acknowledge(
+/// The entry that answers the envelope with a TA1.
+pub fn answer_interchange(
     interchange: &[u8],
     buffer_length: usize,
     date: u32,
     time: u32,
     control: u32,
-) -> Result<Vec<u8>, Refusal> {
+) -> Answer {
+    let response = acknowledge_interchange(interchange, date, time, control);
+    fitting(response, buffer_length)
+}
+
+/// Refusal 14, which each entry gives last.
+fn fitting(response: Result<Vec<u8>, Refusal>, buffer_length: usize) -> Answer {
+    match response {
+        Ok(response) if response.len() > buffer_length => {
+            let needed = response.len();
+            Answer::Refused(Refusal::BufferTooShort { needed })
+        }
+        Ok(response) => Answer::Acknowledged(response),
+        Err(refusal) => Answer::Refused(refusal),
+    }
+}
+
+fn acknowledge(interchange: &[u8], date: u32, time: u32, control: u32) -> Result<Vec<u8>, Refusal> {
     let caller = CallerNumbers::check(date, time, control)?;
     let isa = Isa::read(interchange)?;
     let envelope = Envelope::read(interchange, &isa)?;
     let header = GroupHeader::read(envelope.gs(), &isa.delimiters)?;
     let sets = TransactionSet::cut(envelope.group(), &isa.delimiters)?;
     let verdict = GroupVerdict::reach(&header, &sets, envelope.ge(), &isa.delimiters);
-    let response = response::write(&caller, &isa, &header, &verdict);
-    if response.len() > buffer_length {
-        let needed = response.len();
-        return Err(Refusal::BufferTooShort { needed });
-    }
-    Ok(response)
+    Ok(response::write(&caller, &isa, &header, &verdict))
 }

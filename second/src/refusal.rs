@@ -1,4 +1,4 @@
-//! The refusals, in the order of checking.
+//! The refusals, by their numbers.
 
 #[derive(Debug, Clone, Copy, PartialEq, Eq)]
 pub enum Refusal {
@@ -16,6 +16,7 @@ pub enum Refusal {
     NoSet,
     SetHeader,
     BufferTooShort { needed: usize },
+    NoTa1Wanted,
 }
 
 impl Refusal {
@@ -35,6 +36,7 @@ impl Refusal {
             Refusal::NoSet => 12,
             Refusal::SetHeader => 13,
             Refusal::BufferTooShort { .. } => 14,
+            Refusal::NoTa1Wanted => 15,
         }
     }
 }

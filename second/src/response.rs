@@ -1,4 +1,4 @@
-//! Writing the response interchange.
+//! Writing the response interchange with its 997.
 
 use crate::caller::CallerNumbers;
 use crate::delimiters::Delimiters;
@@ -20,7 +20,7 @@ pub fn write(
     let mut writer = Writer::new(isa.delimiters);
     let control = caller.control.to_string();
     let long_control = caller.long_control();
-    write_isa(&mut writer, caller, isa);
+    writer.isa(caller, isa);
     writer.segment(&[
         b"GS",
         b"FA",
@@ -36,28 +36,6 @@ pub fn write(
     writer.segment(&[b"GE", b"1", control.as_bytes()]);
     writer.segment(&[b"IEA", b"1", long_control.as_bytes()]);
     writer.bytes
-}
-
-fn write_isa(writer: &mut Writer, caller: &CallerNumbers, isa: &Isa) {
-    writer.segment(&[
-        b"ISA",
-        b"00",
-        b"          ",
-        b"00",
-        b"          ",
-        isa.receiver_qualifier(),
-        isa.receiver(),
-        isa.sender_qualifier(),
-        isa.sender(),
-        caller.short_date().as_bytes(),
-        caller.time.as_bytes(),
-        b"U",
-        b"00401",
-        caller.long_control().as_bytes(),
-        b"0",
-        isa.usage_indicator(),
-        &[isa.delimiters.component],
-    ]);
 }
 
 /// The 997 from ST to SE.
@@ -135,14 +113,14 @@ fn number(value: impl ToString) -> Vec<u8> {
 }
 
 /// Collects segments and counts them.
-struct Writer {
+pub(crate) struct Writer {
     delimiters: Delimiters,
-    bytes: Vec<u8>,
+    pub(crate) bytes: Vec<u8>,
     segments: usize,
 }
 
 impl Writer {
-    fn new(delimiters: Delimiters) -> Self {
+    pub(crate) fn new(delimiters: Delimiters) -> Self {
         Writer {
             delimiters,
             bytes: Vec::new(),
@@ -150,8 +128,31 @@ impl Writer {
         }
     }
 
+    /// Writes our ISA, with the parties turned round.
+    pub(crate) fn isa(&mut self, caller: &CallerNumbers, isa: &Isa) {
+        self.segment(&[
+            b"ISA",
+            b"00",
+            b"          ",
+            b"00",
+            b"          ",
+            isa.receiver_qualifier(),
+            isa.receiver(),
+            isa.sender_qualifier(),
+            isa.sender(),
+            caller.short_date().as_bytes(),
+            caller.time.as_bytes(),
+            b"U",
+            b"00401",
+            caller.long_control().as_bytes(),
+            b"0",
+            isa.usage_indicator(),
+            &[isa.delimiters.component],
+        ]);
+    }
+
     /// Writes a segment given as its id and its elements.
-    fn segment(&mut self, parts: &[&[u8]]) {
+    pub(crate) fn segment(&mut self, parts: &[&[u8]]) {
         self.bytes.extend(parts.join(&self.delimiters.element));
         self.bytes.push(self.delimiters.terminator);
         self.segments += 1;

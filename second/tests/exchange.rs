@@ -1,9 +1,10 @@
-//! The whole exchange as `ack` does it.
+//! The whole exchange as `ack` and `ta1` do it.
 
 mod common;
 
 use common::*;
 use second::exchange::exchange;
+use second::{answer, answer_interchange};
 
 const LINE: &str = "20240315 0930 77\n";
 
@@ -12,7 +13,11 @@ fn clean() -> String {
 }
 
 fn printed(input: &str) -> String {
-    String::from_utf8(exchange(input.as_bytes())).unwrap()
+    String::from_utf8(exchange(answer, input.as_bytes())).unwrap()
+}
+
+fn printed_by_ta1(input: &str) -> String {
+    String::from_utf8(exchange(answer_interchange, input.as_bytes())).unwrap()
 }
 
 #[test]
@@ -35,7 +40,7 @@ fn the_worked_exchange() {
 
 #[test]
 fn a_response_is_printed_with_nothing_after_it() {
-    let output = exchange(format!("{LINE}{}", clean()).as_bytes());
+    let output = exchange(answer, format!("{LINE}{}", clean()).as_bytes());
     assert_eq!(output, ask(clean().as_bytes()).response());
 }
 
@@ -84,11 +89,9 @@ fn a_bad_first_line_is_refusal_1() {
         "\n20240315 0930 77\n",
     ];
     for line in bad {
-        assert_eq!(
-            printed(&format!("{line}{}", clean())),
-            "refused 1\n",
-            "{line:?}"
-        );
+        let input = format!("{line}{}", clean());
+        assert_eq!(printed(&input), "refused 1\n", "{line:?}");
+        assert_eq!(printed_by_ta1(&input), "refused 1\n", "{line:?}");
     }
 }
 
@@ -100,12 +103,23 @@ fn numbers_out_of_range_in_a_well_formed_line_are_refusal_1() {
         "20240315 0930 0",
         "00000000 0930 77",
     ] {
-        assert_eq!(
-            printed(&format!("{line}\n{}", clean())),
-            "refused 1\n",
-            "{line}"
-        );
+        let input = format!("{line}\n{}", clean());
+        assert_eq!(printed(&input), "refused 1\n", "{line}");
+        assert_eq!(printed_by_ta1(&input), "refused 1\n", "{line}");
     }
+}
+
+#[test]
+fn ta1_prints_its_response_or_its_refusal() {
+    assert_eq!(
+        printed_by_ta1(&format!("{LINE}{}", clean())),
+        "refused 15\n"
+    );
+    let wanting_ta1 = clean().replace("*0*T*>", "*1*T*>");
+    let expected =
+        "ISA*00*          *00*          *ZZ*BROKERB        *ZZ*CARRIERA       *240315*0930*U*00401*000000077*0*T*>~\
+        TA1*000000042*240315*0915*A*000~IEA*0*000000077~";
+    assert_eq!(printed_by_ta1(&format!("{LINE}{wanting_ta1}")), expected);
 }
 
 #[test]

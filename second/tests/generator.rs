@@ -12,7 +12,7 @@ const SEED: u64 = 990;
 fn every_number_and_code_occurs_often() {
     let mut coverage = Coverage::default();
     for case in cases(SEED).take(6_000) {
-        coverage.count(&case, &case.answer());
+        coverage.count(&case);
     }
     for outcome in all_outcomes() {
         let count = coverage.cases_with(&outcome);
@@ -44,7 +44,7 @@ fn clean_cases_are_accepted_whole() {
     let mut coverage = Coverage::default();
     let clean = cases(SEED).filter(|case| case.family == Family::Clean);
     for case in clean.take(300) {
-        coverage.count(&case, &case.answer());
+        coverage.count(&case);
     }
     let code = |id, code: &str| Outcome::Code(id, code.to_string());
     assert_eq!(coverage.cases_with(&code("AK9", "A")), 300);
@@ -64,6 +64,116 @@ fn of_two_refusals_the_lower_number_is_given() {
         seen.insert(case.family);
     }
     assert_eq!(seen.len(), 14 + 14 * 13 / 2);
+}
+
+/// What an interchange that is right but for these two refusals gets from the
+/// entry with TA1: the number, or the note code.
+fn ta1_of(low: u8, high: u8, isa14: u8) -> &'static [&'static str] {
+    match (low, high) {
+        (1..=5, _) => &["1", "2", "3", "4", "5"][usize::from(low) - 1..][..1],
+        _ if isa14 != b'1' => &["15"],
+        (6, _) => &["023"],
+        (7, _) => &["022"],
+        (8, _) => &["001", "021", "022"],
+        _ => &["000"],
+    }
+}
+
+/// The number of an answer, or the note code of its TA1.
+fn told_by_ta1(answer: &Answer) -> String {
+    match answer.response() {
+        [] => answer.number().to_string(),
+        response => String::from_utf8_lossy(&response[134..137]).into_owned(),
+    }
+}
+
+#[test]
+fn ta1_tells_of_the_first_fault_of_two() {
+    let mut seen: BTreeMap<String, u32> = BTreeMap::new();
+    for mut case in cases(SEED).take(20_000) {
+        let (low, high) = match case.family {
+            Family::Refusal(number) => (number, number),
+            Family::RefusalPair(low, high) => (low, high),
+            _ => continue,
+        };
+        case.buffer_length = RESPONSE_BUFFER;
+        let isa14 = case.interchange.get(100).copied().unwrap_or_default();
+        let told = told_by_ta1(&case.answer_interchange());
+        assert!(
+            ta1_of(low, high, isa14).contains(&told.as_str()),
+            "{told} {case:?}"
+        );
+        *seen.entry(told).or_default() += 1;
+    }
+    assert_eq!(seen.len(), 11, "{seen:?}");
+    assert!(seen.values().all(|&count| count >= 20), "{seen:?}");
+}
+
+/// What is remarkable about an interchange that asks for a TA1 and passes
+/// checks 1 to 7, by its elements of IEA.
+fn remarkable_iea(case: &Case) -> Option<&'static str> {
+    let isa13 = &case.interchange[90..99];
+    let (separator, terminator) = (case.interchange[3], case.interchange[105]);
+    let segments = case.interchange.split(|&byte| byte == terminator);
+    let iea = segments.rev().nth(1)?;
+    let elements: Vec<&[u8]> = iea.split(|&byte| byte == separator).skip(1).collect();
+    let differing = |iea02: &[u8]| -> Vec<usize> {
+        let pairs = iea02.iter().zip(isa13).enumerate();
+        let differing = pairs.filter(|(_, (one, other))| one != other);
+        differing.map(|(at, _)| at).collect()
+    };
+    let is_one = |iea01: &[u8]| matches!(iea01, b"1" | b"01" | b"001" | b"0001" | b"00001");
+    match elements[..] {
+        [] => Some("no element"),
+        [_] => Some("one element"),
+        [b"", b""] => Some("two empty elements"),
+        [b"000001", iea02] if iea02 == isa13 => Some("a count of six digits"),
+        [iea01, iea02] if iea02 == isa13 && !is_one(iea01) => Some("a wrong count"),
+        [iea01, iea02] if iea02 == isa13 && iea01.len() == 5 => Some("a count of five digits"),
+        [iea01, iea02] if iea02 != isa13 && !is_one(iea01) => Some("both wrong"),
+        [_, b""] => Some("no control number"),
+        [_, iea02] if iea02.len() != 9 => Some("a control number of another length"),
+        [_, iea02] if differing(iea02) == [0] => Some("another first digit"),
+        [_, iea02] if differing(iea02) == [8] => Some("another last digit"),
+        [_, _] => None,
+        [_, iea02, b""] if iea02 == isa13 => Some("an empty third element"),
+        [_, _, _] => Some("three elements"),
+        [..] => Some("four elements"),
+    }
+}
+
+#[test]
+fn envelopes_are_remarkable_in_every_way() {
+    let mut seen: BTreeMap<_, u32> = BTreeMap::new();
+    let mut groups: BTreeMap<_, u32> = BTreeMap::new();
+    let mut buffers: BTreeMap<_, u32> = BTreeMap::new();
+    let envelopes = |&index: &u64| Family::of(SEED, index) == Family::Envelopes;
+    for index in (0..50_000).filter(envelopes) {
+        let case = Case::make(SEED, index);
+        let roomy = Case {
+            buffer_length: RESPONSE_BUFFER,
+            ..case.clone()
+        };
+        let wants_ta1 = case.interchange.get(100) == Some(&b'1');
+        let number = roomy.answer().number();
+        if wants_ta1 && !(1..=7).contains(&number) {
+            *seen.entry(remarkable_iea(&case)).or_default() += 1;
+        }
+        if roomy.answer_interchange().number() == 0 {
+            *groups.entry(number).or_default() += 1;
+        }
+        let number = case.answer_interchange().number();
+        *buffers.entry((case.buffer_length, number)).or_default() += 1;
+    }
+    seen.remove(&None);
+    assert_eq!(seen.len(), 14, "{seen:?}");
+    assert!(seen.values().all(|&count| count >= 20), "{seen:?}");
+    assert!(groups.keys().copied().eq([0, 6, 7, 8, 9, 10, 11, 12, 13]));
+    assert!(groups.values().all(|&count| count >= 20), "{groups:?}");
+    for edge in [(0, 14), (153, 14), (153, 15), (154, 0), (155, 0)] {
+        let count = buffers.get(&edge).copied();
+        assert!(count >= Some(20), "{edge:?}: {count:?}");
+    }
 }
 
 #[test]
@@ -252,7 +362,7 @@ fn whole_exchanges_have_good_and_bad_first_lines() {
             case.time,
             case.control,
         );
-        let printed = exchange(&standard_input(SEED, index));
+        let printed = exchange(answer, &standard_input(SEED, index));
         if direct.number() == 1 {
             assert_eq!(printed, b"refused 1\n");
         } else if printed == b"refused 1\n" {

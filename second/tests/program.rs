@@ -19,10 +19,15 @@ fn case_file(name: &str) -> PathBuf {
 }
 
 #[test]
-fn ack_prints_the_response_or_the_refusal_and_nothing_else() {
-    for name in ["worked-exchange", "refusal-06-line-break-at-the-end"] {
+fn the_response_or_the_refusal_is_printed_and_nothing_else() {
+    for (program, name) in [
+        ("ack", "worked-exchange"),
+        ("ack", "refusal-06-line-break-at-the-end"),
+        ("ta1", "ta1/worked-exchange"),
+        ("ta1", "ta1/refusal-15-isa14-zero"),
+    ] {
         let input = File::open(case_file(&format!("{name}.in"))).unwrap();
-        let output = run(&["ack"], input.into());
+        let output = run(&[program], input.into());
         let expected = fs::read(case_file(&format!("{name}.out"))).unwrap();
         assert_eq!(output.stdout, expected, "{name}");
         assert!(output.stderr.is_empty(), "{name}");
@@ -48,18 +53,21 @@ fn generate_prints_what_it_covered() {
     let report = String::from_utf8(output.stdout).unwrap();
     let lines: Vec<&str> = report.lines().map(str::trim_start).collect();
     assert_eq!(lines[0], "500 cases");
-    let numbers = lines.iter().filter(|line| line.contains(" number "));
-    let counts = numbers.map(|line| line.split_once(' ').unwrap().0);
-    let sum: u32 = counts.map(|count| count.parse::<u32>().unwrap()).sum();
-    assert_eq!(sum, 500);
+    for numbered in [" ack number ", " ta1 number "] {
+        let numbers = lines.iter().filter(|line| line.contains(numbered));
+        let counts = numbers.map(|line| line.split_once(' ').unwrap().0);
+        let sum: u32 = counts.map(|count| count.parse::<u32>().unwrap()).sum();
+        assert_eq!(sum, 500);
+    }
 }
 
 #[test]
 fn unknown_commands_are_told_the_usage() {
-    let strange: [&[&str]; 4] = [
+    let strange: [&[&str]; 5] = [
         &[],
         &["answer"],
         &["ack", "now"],
+        &["ack", "ta1"],
         &["generate", "--seed", "x", "--count", "1"],
     ];
     for arguments in strange {

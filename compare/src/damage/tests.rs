@@ -3,13 +3,14 @@
 use super::*;
 use crate::outcome::of_second;
 use crate::segments::{cut, joined, number, Segments};
+use second::answer;
 use std::collections::BTreeSet;
 
 /// What is found in pairs of a library that is the second program but for
 /// what `spoil` does.
 fn faults_of(spoil: impl Fn(&mut Outcome)) -> BTreeSet<Fault> {
     let library = |case: &Case| {
-        let mut outcome = of_second(case, 0);
+        let mut outcome = of_second(answer, case, 0);
         spoil(&mut outcome);
         outcome
     };

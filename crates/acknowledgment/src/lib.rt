@@ -2,7 +2,7 @@
 ghost use mathlib.Core.Path.{_≡_};
 ghost use Rattle.rules.specs.Cutting as cutting;
 ghost use Rattle.rules.specs.Refusals.{refusal};
-ghost use Rattle.rules.specs.Answers.{Allowed, called};
+ghost use Rattle.rules.specs.Answers.{functionalAcknowledgment, Allowed};
 ghost use Rattle.envelope.proofs.Laws.{GroupIs};
 use envelope::GroupAt;
 use refusals::Checked;
@@ -24,7 +24,7 @@ fn answer_group(
     call: Call,
 ) -> Answer
     requires { ⌜ (refusal (now i) call ≡ 0) × ((delimiters ≡ cutting.delimiters (now i)) × GroupIs delimiters (now i) group) ⌝ }
-    ensures { λ r. ⌜ Allowed (now (i .entry)) (now (out .entry)) call r (now (out .exit)) ⌝ }
+    ensures { λ r. ⌜ Allowed (functionalAcknowledgment (now (i .entry)) call) (now (out .entry)) r (now (out .exit)) ⌝ }
 {
     let gs = text::part(i, group.gs, group.gs_end);
     let scope = guides::scope_of(gs, delimiters);
@@ -34,7 +34,7 @@ fn answer_group(
 
 // The answer to one interchange.
 pub fn acknowledge(interchange: &[u8], response: &mut [u8], call: Call) -> Answer
-    ensures { λ r. ⌜ Allowed (now (interchange .entry)) (now (response .entry)) call r (now (response .exit)) ⌝ }
+    ensures { λ r. ⌜ Allowed (functionalAcknowledgment (now (interchange .entry)) call) (now (response .entry)) r (now (response .exit)) ⌝ }
 {
     match refusals::check(interchange, call) {
         Checked::Sound(d, envelope) => {
@@ -42,38 +42,5 @@ pub fn acknowledge(interchange: &[u8], response: &mut [u8], call: Call) -> Answe
             answer_group(response, interchange, d, group, call)
         }
         Checked::Refused(n) => Answer::Refused(n),
-    }
-}
-
-// The same for C: the number is returned and the length stored.
-#[no_mangle]
-pub extern "C" fn x12_acknowledge(
-    interchange: &[u8],
-    response: &mut [u8],
-    date: u32,
-    time: u32,
-    control: u32,
-    length: &mut usize,
-) -> u32
-    ensures { λ r. ⌜ record { number = r; size = now (length .exit); buffer = now (response .exit) } ≡ called (now (interchange .entry)) (now (response .entry)) (record { date = date; time = time; control = control }) ⌝ }
-{
-    let call = Call {
-        date,
-        time,
-        control,
-    };
-    match acknowledge(interchange, response, call) {
-        Answer::Written(n) => {
-            *length = n;
-            0
-        }
-        Answer::Refused(number) => {
-            *length = 0;
-            number as u32
-        }
-        Answer::TooLong(n) => {
-            *length = n;
-            14
-        }
     }
 }

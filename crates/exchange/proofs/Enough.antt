@@ -10,40 +10,45 @@ use borrow.Author.Tests.{leb-true, leb-false, le-leb, lt-leb}
 use lib.Dec.{leb, eqb}
 use lib.ListN.{length, take}
 use lib.Seq.{take-all, length-take-le}
-use Rattle.rules.specs.Base.{Bytes, Rule, _⇒_, first, if_then_else_}
-use Rattle.rules.specs.Answers.{answer, fitting}
+use Rattle.rules.specs.Base.{Bytes, Rule, _⇒_, first, between, if_then_else_}
+use Rattle.rules.specs.Answers.{Replies, answer, fitting}
 use Rattle.rules.specs.Refusals.{goodCall, callRules, headRules, refusalRules, refusal}
-use Rattle.rules.specs.Response.{response}
-use Rattle.rules.specs.Program.{Input, behindByte, parted, isCall, refusedText, printedAs, printedCall, printedFor, printed}
+use Rattle.rules.specs.InterchangeAcknowledgment.{interchangeRules, interchangeRefusal}
+use Rattle.rules.specs.Program.{Input, behindByte, parted, isCall, refusedText, printedAs, printedReply, printedCall, printedFor, printed}
 use Rattle.rules.specs.declared.Answer.the-variants.{Refused}
 use Rattle.rules.specs.declared.Call.{Call}
+use Rattle.exchange.specs.Replies.{repliesOf}
 use Rattle.exchange.specs.Deciding.{deciding}
+use Rattle.exchange.specs.declared.Acknowledgment.{Acknowledgment}
+use Rattle.exchange.specs.declared.Acknowledgment.the-variants.{Functional, Interchange}
 use Rattle.exchange.proofs.FirstLine.{call-line}
 
 -- 1. The interchange.
--- where the rule on the length applies, the caller's numbers decide which of the first two rules it is
-first-two : (good : Bool) (rs : List Rule) → first ((not good ⇒ 1) ∷ (true ⇒ 2) ∷ rs) ≡ if good then 2 else 1
+-- of a long interchange, the caller's numbers decide which of the first two rules applies
+first-two : (good : Bool) (i : Bytes) (rs : List Rule) → 65536 < length i
+    → first ((not good ⇒ 1) ∷ (not (between 106 65536 (length i)) ⇒ 2) ∷ rs) ≡ if good then 2 else 1
 unfolding first
-first-two true rs = refl
-first-two false rs = refl
+first-two true i rs h = rw (le-leb 106 (length i) (omega arith), lt-leb (length i) 65536 h)
+first-two false i rs h = refl
 
-module _ (room : ℕ) (call : Call) where
+-- the rules of both entries begin with these two
+refusal-long : (asked : Acknowledgment) (i : Bytes) (call : Call) → 65536 < length i → repliesOf asked i call .refusal ≡ if goodCall call then 2 else 1
+unfolding repliesOf refusal refusalRules interchangeRefusal interchangeRules callRules headRules
+refusal-long Functional i call h = first-two (goodCall call) i _ h
+refusal-long Interchange i call h = first-two (goodCall call) i _ h
+
+module _ (asked : Acknowledgment) (room : ℕ) (call : Call) where
   abbrev told : Bytes → Bytes
-  told i = printedAs (answer i room call) (response i call)
-
-  refusal-long : (i : Bytes) → 65536 < length i → refusal i call ≡ if goodCall call then 2 else 1
-  unfolding refusal refusalRules callRules headRules
-  refusal-long i h = rw (le-leb 106 (length i) (omega arith), lt-leb (length i) 65536 h) (first-two (goodCall call) _)
+  told i = printedReply (repliesOf asked i call) room
 
   too-long : (i : Bytes) → 65536 < length i → told i ≡ refusedText (if goodCall call then 2 else 1)
   unfolding answer
-  too-long i h = rw (refusal-long i h) (go (goodCall call))
+  too-long i h = rw (refusal-long asked i call h) (go (repliesOf asked i call .response) (goodCall call))
     where
-      go : (good : Bool)
-          → printedAs (let n = if good then 2 else 1 in if eqb n 0 then fitting (response i call) room else Refused n) (response i call)
-          ≡ refusedText (if good then 2 else 1)
-      go true = refl
-      go false = refl
+      go : (r : Bytes) (good : Bool)
+          → printedAs (let n = if good then 2 else 1 in if eqb n 0 then fitting r room else Refused n) r ≡ refusedText (if good then 2 else 1)
+      go r true = refl
+      go r false = refl
 
   -- what lies behind its first 65,537 bytes makes no difference
   cut : (m : ℕ) (i : Bytes) → 65536 < m → told (take m i) ≡ told i
@@ -82,18 +87,22 @@ first-bytes (suc k) (b ∷ bs) P neither part whole =
     go false later = later
 
 -- 3. The theorem.
-pub enough : (input : Bytes) (room : ℕ) → printed (take deciding input) room ≡ printed input room
-unfolding printed printedCall
-enough input room =
-    first-bytes deciding input (λ u v. printedFor u room ≡ printedFor v room) refl
-    (λ i h. part i (isCall (i .line)) refl h)
-    (λ i m e. whole i m (isCall (i .line)) refl e)
-  where
-    part : (i : Input) (q : Bool) → isCall (i .line) ≡ q → deciding ≤ length (i .line) → refusedText 1 ≡ printedCall i room
-    part i true e h = absurd (omega (arith, call-line (i .line) e .short))
-    part i false e h = rw e
+module _ (asked : Acknowledgment) (input : Bytes) (room : ℕ) where
+  abbrev replies : Replies
+  replies = repliesOf asked
 
-    whole : (i : Input) (m : ℕ) (q : Bool) → isCall (i .line) ≡ q → deciding ≡ length (i .line) + m + 1
-        → printedCall (record { line = i .line; interchange = take m (i .interchange) }) room ≡ printedCall i room
-    whole i m true e h = rw e (cut room _ m (i .interchange) (omega (arith, call-line (i .line) e .short)))
-    whole i m false e h = rw e
+  pub enough : printed replies (take deciding input) room ≡ printed replies input room
+  unfolding printed printedCall
+  enough =
+      first-bytes deciding input (λ u v. printedFor replies u room ≡ printedFor replies v room) refl
+      (λ i h. part i (isCall (i .line)) refl h)
+      (λ i m e. whole i m (isCall (i .line)) refl e)
+    where
+      part : (i : Input) (q : Bool) → isCall (i .line) ≡ q → deciding ≤ length (i .line) → refusedText 1 ≡ printedCall replies i room
+      part i true e h = absurd (omega (arith, call-line (i .line) e .short))
+      part i false e h = rw e
+
+      whole : (i : Input) (m : ℕ) (q : Bool) → isCall (i .line) ≡ q → deciding ≡ length (i .line) + m + 1
+          → printedCall replies (record { line = i .line; interchange = take m (i .interchange) }) room ≡ printedCall replies i room
+      whole i m true e h = rw e (cut asked room _ m (i .interchange) (omega (arith, call-line (i .line) e .short)))
+      whole i m false e h = rw e

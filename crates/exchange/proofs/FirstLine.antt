@@ -13,9 +13,8 @@ use lib.ListN.{length, getD, take, drop, length-drop, drop-of-length-le}
 use lib.Seq.{take-nil, take-all, length-take-le, slice}
 use Rattle.rules.specs.Base.{Bytes, if_then_else_}
 use Rattle.rules.specs.Numbers.{digits, value}
-use Rattle.rules.specs.Program.{Input, parted, behindByte, isCall, refusedText, printedAs, printedCall, printedFor}
-use Rattle.rules.specs.Response.{response}
-use Rattle.rules.specs.Answers.{answer}
+use Rattle.rules.specs.Program.{Input, parted, behindByte, isCall, refusedText, printedReply, printedCall, printedFor}
+use Rattle.rules.specs.Answers.{Replies}
 use Rattle.rules.specs.declared.Call.{Call}
 use Rattle.rules.proofs.Logic.{and-left, and-right}
 use Rattle.text.specs.Text.{indexOf, indexWhere, upToTen}
@@ -130,11 +129,10 @@ module _ (s : Bytes) (end : ℕ) (found : end ≡ 0 + indexOf 10 (drop 0 s)) whe
   call-at h = let e : end ≡ indexOf 10 s = omega arith in rw e (rw (line-at s (omega arith)))
 
 -- 4. What callers use.
--- what is printed for a call, with so much room for the response
-abbrev pub printedBy : FirstLine → Bytes → ℕ → Bytes
-printedBy (Numbers call at) input room =
-    printedAs (answer (drop at input) room call) (response (drop at input) call)
-printedBy Bad input room = refusedText 1
+-- what is printed of an acknowledgment for a call, with so much room for the response
+abbrev pub printedBy : Replies → FirstLine → Bytes → ℕ → Bytes
+printedBy replies (Numbers call at) input room = printedReply (replies (drop at input) call) room
+printedBy replies Bad input room = refusedText 1
 
 -- where the interchange of a call starts
 abbrev startOf : FirstLine → ℕ
@@ -150,15 +148,16 @@ by-line s P without with = go (ltb (indexOf 10 s) (length s)) refl
     go false h = rw (no-line s (ltb-false (indexOf 10 s) (length s) h)) without
 
 module _ (input : Bytes) where
-  pub printed-by : (room : ℕ) (c : FirstLine) → c ≡ lineIn input → printedFor (parted input) room ≡ printedBy c input room
+  pub printed-by : (replies : Replies) (room : ℕ) (c : FirstLine) → c ≡ lineIn input
+      → printedFor replies (parted input) room ≡ printedBy replies c input room
   unfolding lineIn printedCall
-  printed-by room c e =
+  printed-by replies room c e =
       let n = indexOf 10 input in
       let l = take n input in
-      rw e (by-line input (λ i. printedFor i room ≡ printedBy (lineFor i) input room) refl (λ h. go l (isCall l) (length-take-le n input (omega arith)) refl))
+      rw e (by-line input (λ i. printedFor replies i room ≡ printedBy replies (lineFor i) input room) refl (λ h. go l (isCall l) (length-take-le n input (omega arith)) refl))
     where
       go : (l : Bytes) (q : Bool) → length l ≡ indexOf 10 input → isCall l ≡ q
-          → printedFor (some (record { line = l; interchange = drop (suc (indexOf 10 input)) input })) room ≡ printedBy (lineOn l) input room
+          → printedFor replies (some (record { line = l; interchange = drop (suc (indexOf 10 input)) input })) room ≡ printedBy replies (lineOn l) input room
       go l true k e = rw (e, k, add-one)
       go l false k e = rw e
 

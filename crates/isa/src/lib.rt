@@ -1,12 +1,12 @@
-// ISA: its delimiters and its fields, and refusals 2 to 6, which are read of it and of the last byte.
+// ISA: its delimiters and its fields, refusals 2 to 5, and the last byte.
 ghost use mathlib.Core.Path.{_≡_};
 ghost use mathlib.Core.List.{[], _∷_};
 ghost use Prim.Native.Nat.{_<_};
 ghost use lib.ListN.{getD};
-ghost use Rattle.rules.specs.Base.{ascii, all, first, last, member};
+ghost use Rattle.rules.specs.Base.{ascii, all, last, member};
 ghost use Rattle.rules.specs.Cutting as cutting;
 ghost use Rattle.rules.specs.Cutting.{field, isa, separators, valid};
-ghost use Rattle.rules.specs.Refusals.{endRules, hasISA, plain, distinct, goodMarks, goodISA};
+ghost use Rattle.rules.specs.Refusals.{isTerminated, hasISA, plain, distinct, goodMarks, goodISA};
 ghost use Rattle.isa.specs.Delimited.{isaOf};
 use rules::Delimiters;
 use rules::Interchange;
@@ -73,14 +73,11 @@ pub fn read_isa(i: &[u8]) -> Isa
     Isa::Sound(d)
 }
 
-// Refusal 6: the last byte ends a segment.
-pub fn end_refusal(i: &[u8], d: Delimiters) -> u8
-    ensures { λ r. ⌜ r ≡ first (endRules d (now (i .entry))) ⌝ }
+// The last byte ends a segment.
+pub fn is_terminated(i: &[u8], d: Delimiters) -> bool
+    ensures { λ r. ⌜ r ≡ isTerminated d (now (i .entry)) ⌝ }
 {
-    if last_byte(i) != d.terminator {
-        return 6;
-    }
-    0
+    last_byte(i) == d.terminator
 }
 
 // The delimiters that the interchange brings, each 0 where it is too short.

@@ -13,10 +13,11 @@ use Rattle.rules.specs.Cutting.{delimiters}
 use Rattle.rules.specs.Sets.{Set}
 use Rattle.rules.specs.Refusals.{refusal}
 use Rattle.rules.specs.Response.{out, response}
-use Rattle.rules.specs.Answers.{Allowed, answer, outcome, called, number, buffer}
+use Rattle.rules.specs.Answers.{functionalAcknowledgment, Allowed, answer, outcome, called, number, buffer}
 use Rattle.rules.specs.Damage.{Damaged, setsIn, rebuilt, opening, closing, joined, blocksIn, Stays}
 use Rattle.rules.specs.declared.Call.{Call}
 use Rattle.rules.specs.declared.Answer.{Answer}
+use Rattle.rules.proofs.Facts.{allowed-outcome}
 use Rattle.rules.proofs.Damage.{response-parts, one-spoiled}
 use Rattle.acknowledgment.proofs.acknowledge.Reads as acknowledge
 
@@ -27,28 +28,24 @@ asks-nothing κs a = tt
 
 -- What comes back is allowed. Shut out: a weaker `ensures`.
 pub allows : (κs : _) (a : _) (r : _) (s : _) → acknowledge.Post κs a r s
-    → Allowed (now (a .0)) (now (a .1 .0)) (a .1 .1 .0) r (now (s .1 .0))
+    → Allowed (functionalAcknowledgment (now (a .0)) (a .1 .1 .0)) (now (a .1 .0)) r (now (s .1 .0))
 allows κs a r s p = p
 
 -- All that a caller sees is the outcome of the law. Shut out: any other number, length or byte.
 pub calls : (κs : _) (a : _) (r : _) (s : _) → acknowledge.Post κs a r s
-    → outcome r (now (s .1 .0)) ≡ called (now (a .0)) (now (a .1 .0)) (a .1 .1 .0)
-unfolding Allowed called
-calls κs a r s p = sees (now (a .0)) (now (a .1 .0)) (a .1 .1 .0) r (now (s .1 .0)) p
-  where
-    sees : (i lent : Bytes) (call : Call) (r : Answer) (left : Bytes) → Allowed i lent call r left → outcome r left ≡ called i lent call
-    sees i lent call r left q = rw (q .1, q .0)
+    → outcome r (now (s .1 .0)) ≡ called (functionalAcknowledgment (now (a .0)) (a .1 .1 .0)) (now (a .1 .0))
+calls κs a r s p = allowed-outcome (functionalAcknowledgment (now (a .0)) (a .1 .1 .0)) (now (a .1 .0)) r p
 
-module _ (i lent : Bytes) (call : Call) (a : Answer) (left : Bytes) (p : Allowed i lent call a left) where
-  -- 1. A refusal gives its number and the length 0, and every byte of the buffer is as lent. Shut out: refusing everything, a refusal that is
-  -- none of 01's, and one that writes.
+module _ (i lent : Bytes) (call : Call) (a : Answer) (left : Bytes) (p : Allowed (functionalAcknowledgment i call) lent a left) where
+  -- 1. A refusal gives its number and the length 0, and every byte of the buffer is as lent. Shut out: a refusal that is none of 01's, and one
+  -- that writes.
   pub refused : (refusal i call ≡ 0 → ⊥)
       → outcome a left ≡ record { number = refusal i call; size = 0; buffer = lent }
   unfolding Allowed answer
   refused h = rw (p .1, p .0, ne-eqb _ 0 h)
 
   -- 2. Without a refusal the response of document 01 stands at the start of the buffer, with its length, and every byte after it is as lent.
-  -- Shut out: doing nothing, and one fixed 997.
+  -- Shut out: refusing everything, doing nothing, and one fixed 997.
   pub answered : refusal i call ≡ 0 → length (response i call) ≤ length lent
       → outcome a left
       ≡ record {
@@ -70,7 +67,7 @@ module _ (i lent : Bytes) (call : Call) (a : Answer) (left : Bytes) (p : Allowed
   unfolding Allowed answer
   is-response e = p .1 ∙ go (eqb (refusal i call) 0) refl (leb (length (response i call)) (length lent)) refl
     where
-      e′ : number (answer i (length lent) call) ≡ 0
+      e′ : number (answer (functionalAcknowledgment i call) (length lent)) ≡ 0
       e′ = ap number (sym (p .0)) ∙ e
 
       go : (b : Bool) → eqb (refusal i call) 0 ≡ b → (c : Bool) → leb (length (response i call)) (length lent) ≡ c
@@ -96,9 +93,9 @@ pub record OneSpoiled (i j : Bytes) (after : List Set) (lent lent′ : Bytes) (c
 
 -- Demand 3 over what is allowed. Shut out: a damaged set that has the whole interchange refused.
 pub spoiled : (i lent lent′ : Bytes) (call : Call) (a a′ : Answer) (left left′ : Bytes)
-    → Allowed i lent call a left → number a ≡ 0
+    → Allowed (functionalAcknowledgment i call) lent a left → number a ≡ 0
     → (after : List Set) → Damaged (delimiters i) (setsIn i) after → length (rebuilt i after) ≤ 65536
-    → Allowed (rebuilt i after) lent′ call a′ left′ → length (response (rebuilt i after) call) ≤ length lent′
+    → Allowed (functionalAcknowledgment (rebuilt i after) call) lent′ a′ left′ → length (response (rebuilt i after) call) ≤ length lent′
     → OneSpoiled i (rebuilt i after) after lent lent′ call a′ left left′
 unfolding Allowed
 spoiled i lent lent′ call a a′ left left′ p e after damaged short q fits =
@@ -121,7 +118,7 @@ pub spoiled-calls : (κs : _) (a : _) (r : _) (s : _) → acknowledge.Post κs a
     → OneSpoiled (now (a .0)) (rebuilt (now (a .0)) after) after (now (a .1 .0)) (now (a′ .1 .0)) (a .1 .1 .0) r′ (now (s .1 .0)) (now (s′ .1 .0))
 spoiled-calls κs a r s p e after damaged short κs′ a′ r′ s′ q same-bytes same-call fits =
     let second =
-    subst (λ (c : Call). Allowed (rebuilt (now (a .0)) after) (now (a′ .1 .0)) c r′ (now (s′ .1 .0))) same-call
-    (subst (λ (j : Bytes). Allowed j (now (a′ .1 .0)) (a′ .1 .1 .0) r′ (now (s′ .1 .0))) same-bytes (allows κs′ a′ r′ s′ q)) in
+    subst (λ (c : Call). Allowed (functionalAcknowledgment (rebuilt (now (a .0)) after) c) (now (a′ .1 .0)) r′ (now (s′ .1 .0))) same-call
+    (subst (λ (j : Bytes). Allowed (functionalAcknowledgment j (a′ .1 .1 .0)) (now (a′ .1 .0)) r′ (now (s′ .1 .0))) same-bytes (allows κs′ a′ r′ s′ q)) in
     spoiled (now (a .0)) (now (a .1 .0)) (now (a′ .1 .0)) (a .1 .1 .0) r r′ (now (s .1 .0)) (now (s′ .1 .0))
     (allows κs a r s p) e after damaged short second fits

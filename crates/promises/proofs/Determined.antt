@@ -1,10 +1,9 @@
 -- Every public function is determined: two outcomes that its contract allows for the same arguments coincide. A contract is read off the code
 -- (`Reads.Post`): of the arguments, the result and what is lent at the exit. Of each function any program is shut out that has another outcome
 -- than this one on any input, and a `requires`, by which a call would go without an outcome.
-use mathlib.Core.Path.{_≡_, sym, ap, _∙_}
+use mathlib.Core.Path.{_≡_, refl, sym, ap, _∙_}
 use mathlib.Core.List.{List}
 use Prim.Native.Nat.{ℕ}
-use lib.ListN.{getD}
 use denote.Ref.{now}
 use Rattle.rules.specs.Base.{Bytes}
 use Rattle.rules.specs.Cutting.{Segment}
@@ -38,7 +37,7 @@ use Rattle.dates.proofs.is_day.Reads as dates-is-day
 use Rattle.dates.proofs.is_date.Reads as dates-is-date
 use Rattle.caller.proofs.call_refusal.Reads as caller-call-refusal
 use Rattle.isa.proofs.read_isa.Reads as isa-read-isa
-use Rattle.isa.proofs.end_refusal.Reads as isa-end-refusal
+use Rattle.isa.proofs.is_terminated.Reads as isa-is-terminated
 use Rattle.isa.proofs.isa_field.Reads as isa-isa-field
 use Rattle.segments.proofs.field.Reads as segments-field
 use Rattle.segments.proofs.id.Reads as segments-id
@@ -124,8 +123,11 @@ use Rattle.blocks.proofs.put_acceptance.Reads as blocks-put-acceptance
 use Rattle.notes.proofs.put_notes.Reads as notes-put-notes
 use Rattle.other_table.proofs.x12_other_table_notes.Reads as other-table-x12-other-table-notes
 use Rattle.acknowledgment.proofs.acknowledge.Reads as acknowledgment-acknowledge
-use Rattle.acknowledgment.proofs.x12_acknowledge.Reads as acknowledgment-x12-acknowledge
+use Rattle.interchange_acknowledgment.proofs.acknowledge_interchange.Reads as interchange-acknowledgment-acknowledge-interchange
+use Rattle.x12.proofs.x12_acknowledge.Reads as x12-x12-acknowledge
+use Rattle.x12.proofs.x12_acknowledge_interchange.Reads as x12-x12-acknowledge-interchange
 use Rattle.exchange.proofs.exchange.Reads as exchange-exchange
+use Rattle.program.proofs.run.Reads as program-run
 use Rattle.look.proofs.valid_bytes.Reads as look-valid-bytes
 use Rattle.look.proofs.look_at.Reads as look-look-at
 
@@ -233,8 +235,8 @@ caller-call-refusal-once = ((λ κs a. tt), λ κs a r₁ r₂ s₁ s₂ p q. p 
 isa-read-isa-once : Determined isa-read-isa.Pre isa-read-isa.Post (λ κs r s. r)
 isa-read-isa-once = ((λ κs a. tt), λ κs a r₁ r₂ s₁ s₂ p q. p ∙ sym q)
 
-isa-end-refusal-once : Determined isa-end-refusal.Pre isa-end-refusal.Post (λ κs r s. r)
-isa-end-refusal-once = ((λ κs a. tt), λ κs a r₁ r₂ s₁ s₂ p q. p ∙ sym q)
+isa-is-terminated-once : Determined isa-is-terminated.Pre isa-is-terminated.Post (λ κs r s. r)
+isa-is-terminated-once = ((λ κs a. tt), λ κs a r₁ r₂ s₁ s₂ p q. p ∙ sym q)
 
 isa-isa-field-once : Determined isa-isa-field.Pre isa-isa-field.Post (λ κs r s. now r)
 isa-isa-field-once = ((λ κs a. tt), λ κs a r₁ r₂ s₁ s₂ p q. p ∙ sym q)
@@ -492,15 +494,29 @@ other-table-x12-other-table-notes-once = ((λ κs a. tt), λ κs a r₁ r₂ s�
 -- acknowledgment
 acknowledgment-acknowledge-once : Determined acknowledgment-acknowledge.Pre acknowledgment-acknowledge.Post (λ κs r s. beside r (now (s .1 .0)))
 acknowledgment-acknowledge-once =
-    ((λ κs a. tt), λ κs a r₁ r₂ s₁ s₂ p q. both-same (once-answer _ _ _ _ _ _ _ p q) (ap (λ (o : Outcome). o .buffer) (once _ _ _ _ _ _ _ p q)))
+    ((λ κs a. tt), λ κs a r₁ r₂ s₁ s₂ p q. both-same (once-answer _ _ _ _ _ _ p q) (ap (λ (o : Outcome). o .buffer) (once _ _ _ _ _ _ p q)))
 
-acknowledgment-x12-acknowledge-once : Determined acknowledgment-x12-acknowledge.Pre acknowledgment-x12-acknowledge.Post (λ κs r s. beside (beside r (now (s .1 .0))) (now (s .1 .1 .1 .1 .1 .0)))
-acknowledgment-x12-acknowledge-once =
+-- interchange_acknowledgment
+interchange-acknowledgment-acknowledge-interchange-once : Determined interchange-acknowledgment-acknowledge-interchange.Pre interchange-acknowledgment-acknowledge-interchange.Post (λ κs r s. beside r (now (s .1 .0)))
+interchange-acknowledgment-acknowledge-interchange-once =
+    ((λ κs a. tt), λ κs a r₁ r₂ s₁ s₂ p q. both-same (once-answer _ _ _ _ _ _ p q) (ap (λ (o : Outcome). o .buffer) (once _ _ _ _ _ _ p q)))
+
+-- x12
+x12-x12-acknowledge-once : Determined x12-x12-acknowledge.Pre x12-x12-acknowledge.Post (λ κs r s. beside (beside r (now (s .1 .0))) (now (s .1 .1 .1 .1 .1 .0)))
+x12-x12-acknowledge-once =
+    ((λ κs a. tt), λ κs a r₁ r₂ s₁ s₂ p q. ap (λ (o : Outcome). beside (beside (o .number) (o .buffer)) (o .size)) (p ∙ sym q))
+
+x12-x12-acknowledge-interchange-once : Determined x12-x12-acknowledge-interchange.Pre x12-x12-acknowledge-interchange.Post (λ κs r s. beside (beside r (now (s .1 .0))) (now (s .1 .1 .1 .1 .1 .0)))
+x12-x12-acknowledge-interchange-once =
     ((λ κs a. tt), λ κs a r₁ r₂ s₁ s₂ p q. ap (λ (o : Outcome). beside (beside (o .number) (o .buffer)) (o .size)) (p ∙ sym q))
 
 -- exchange
-exchange-exchange-once : Determined exchange-exchange.Pre exchange-exchange.Post (λ κs r s. beside r (now (s .1 .0)))
+exchange-exchange-once : Determined exchange-exchange.Pre exchange-exchange.Post (λ κs r s. beside r (now (s .1 .1 .0)))
 exchange-exchange-once = ((λ κs a. tt), λ κs a r₁ r₂ s₁ s₂ p q. both-same (p .0 ∙ sym (q .0)) (p .1 ∙ sym (q .1)))
+
+-- program: nothing comes back and nothing is lent to be written
+program-run-once : Determined program-run.Pre program-run.Post (λ κs r s. r)
+program-run-once = ((λ κs a. tt), λ κs a r₁ r₂ s₁ s₂ p q. refl)
 
 blocks-put-acceptance-once : Determined blocks-put-acceptance.Pre blocks-put-acceptance.Post (λ κs r s. beside r (now (s .0)))
 blocks-put-acceptance-once = ((λ κs a. tt), λ κs a r₁ r₂ s₁ s₂ p q. wrote-once p q)

@@ -10,7 +10,7 @@ use Rattle.rules.specs.Cutting.{delimiters}
 use Rattle.rules.specs.Sets.{Set, SetReport}
 use Rattle.rules.specs.Refusals.{refusal}
 use Rattle.rules.specs.Response.{out, respond, response}
-use Rattle.rules.specs.Answers.{Outcome, outcome, called}
+use Rattle.rules.specs.Answers.{Reply, functionalAcknowledgment, Outcome, outcome, called}
 use Rattle.rules.specs.Damage.{groupIn, setsIn}
 use Rattle.rules.specs.declared.Call.{Call}
 use Rattle.rules.proofs.Exchange.{received, sent, sampleCall}
@@ -26,15 +26,15 @@ use Rattle.promises.proofs.Accepted as accepted
 use Rattle.promises.proofs.Accepted.{Tells, Counts, tells}
 use Rattle.promises.proofs.Dated.{Dated, answered-dated}
 use Rattle.acknowledgment.proofs.acknowledge.Reads as acknowledge
-use Rattle.acknowledgment.proofs.x12_acknowledge.Reads as x12-acknowledge
+use Rattle.x12.proofs.x12_acknowledge.Reads as x12-acknowledge
 
 -- what the law promises of the outcome o of a call on the interchange i and the buffer lent
 pub record Promised (i lent : Bytes) (call : Call) (o : Outcome) : Type 0 where
-  -- a refusal gives its number and the length 0, and every byte of the buffer is as lent: shut out are refusing everything, and a refusal that
-  -- is none of 01's
+  -- a refusal gives its number and the length 0, and every byte of the buffer is as lent: shut out are a refusal that is none of 01's, and one
+  -- that writes
   pub refused : (refusal i call ≡ 0 → ⊥) → o ≡ record { number = refusal i call; size = 0; buffer = lent }
-  -- without one the response stands at the start of the buffer, with its length, and every byte after it is as lent: shut out are doing
-  -- nothing, and one fixed 997
+  -- without one the response stands at the start of the buffer, with its length, and every byte after it is as lent: shut out are refusing
+  -- everything, doing nothing, and one fixed 997
   pub answered : refusal i call ≡ 0 → length (response i call) ≤ length lent → o ≡ holding (response i call) lent
   -- where it does not fit, the number is 14, the length the one that is needed, and the buffer as lent: shut out is a program that writes what
   -- fits
@@ -69,17 +69,21 @@ pub record Promised (i lent : Bytes) (call : Call) (o : Outcome) : Type 0 where
   pub exchange-too-long : i ≡ received → call ≡ sampleCall → length lent < length sent
       → o ≡ record { number = 14; size = length sent; buffer = lent }
 
-module _ (i lent : Bytes) (call : Call) (o : Outcome) (p : o ≡ called i lent call) where
+module _ (i lent : Bytes) (call : Call) (o : Outcome) (p : o ≡ called (functionalAcknowledgment i call) lent) where
   -- the outcome of a call on what is known to be received
-  onto : {j : Bytes} {c : Call} → i ≡ j → call ≡ c → o ≡ called j lent c
-  onto {j} e f = p ∙ ap (λ (i : Bytes). called i lent call) e ∙ ap (called j lent) f
+  onto : {j : Bytes} {c : Call} → i ≡ j → call ≡ c → o ≡ called (functionalAcknowledgment j c) lent
+  onto {j} e f =
+      p ∙ ap (λ (i : Bytes). called (functionalAcknowledgment i call) lent) e ∙ ap (λ (c : Call). called (functionalAcknowledgment j c) lent) f
+
+  abbrev reply : Reply
+  reply = functionalAcknowledgment i call
 
   -- the number 0 is given without a refusal, to a response that fits
   wrote : o .number ≡ 0 → (refusal i call ≡ 0) × (length (response i call) ≤ length lent)
-  wrote e = shown.written i lent call (ap (λ (o : Outcome). o .number) (sym p) ∙ e)
+  wrote e = shown.written reply lent (ap (λ (o : Outcome). o .number) (sym p) ∙ e)
 
   left-is : o .number ≡ 0 → o .buffer ≡ response i call ++ drop (length (response i call)) lent
-  left-is e = ap (λ (o : Outcome). o .buffer) (p ∙ shown.answered i lent call (wrote e .0) (wrote e .1))
+  left-is e = ap (λ (o : Outcome). o .buffer) (p ∙ shown.answered reply lent (wrote e .0) (wrote e .1))
 
   written-out : o .number ≡ 0 → o .buffer ≡ out (delimiters i) (respond i (groupIn i) call) ++ drop (length (response i call)) lent
   unfolding response
@@ -87,10 +91,10 @@ module _ (i lent : Bytes) (call : Call) (o : Outcome) (p : o ≡ called i lent c
 
   promised : Promised i lent call o
   promised = record {
-    refused = λ h. p ∙ shown.refused i lent call h;
-    answered = λ e fits. p ∙ shown.answered i lent call e fits;
-    too-long = λ e h. p ∙ shown.too-long i lent call e h;
-    untouched = λ h. ap (λ (o : Outcome). o .buffer) p ∙ shown.untouched i lent call (λ e. h (ap (λ (o : Outcome). o .number) p ∙ e));
+    refused = λ h. p ∙ shown.refused reply lent h;
+    answered = λ e fits. p ∙ shown.answered reply lent e fits;
+    too-long = λ e h. p ∙ shown.too-long reply lent e h;
+    untouched = λ h. ap (λ (o : Outcome). o .buffer) p ∙ shown.untouched reply lent (λ e. h (ap (λ (o : Outcome). o .number) p ∙ e));
     segments = written-out;
     trim = λ e. response-trim i call (wrote e .0);
     unused = λ e. respond-spared i (groupIn i) call;

@@ -6,5 +6,6 @@ pub mod Spoiling
 pub mod Accepted
 pub mod Dated
 pub mod Faces
+pub mod Agreement
 pub mod Printed
 pub mod Determined

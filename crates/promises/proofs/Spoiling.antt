@@ -16,7 +16,7 @@ use Rattle.rules.specs.Sets.{Set}
 use Rattle.rules.specs.Groups.{tableIn, setReports, groupCodes, GroupReport, groupReport}
 use Rattle.rules.specs.Refusals.{refusal}
 use Rattle.rules.specs.Response.{segmentOut, out, block, ak9, response}
-use Rattle.rules.specs.Answers.{Allowed, answer, number, buffer, Outcome, outcome, called}
+use Rattle.rules.specs.Answers.{functionalAcknowledgment, Allowed, answer, number, buffer, Outcome, outcome, called}
 use Rattle.rules.specs.Damage.{isWhole, isInner, isFilling, refilled, Damaged, done, kept, spoiled, groupIn, setsIn, flat, rebuilt, reportIn, blocksIn, opening, closing, joined}
 use Rattle.rules.specs.declared.Call.{Call}
 use Rattle.rules.specs.declared.Delimiters.{Delimiters}
@@ -28,7 +28,7 @@ use Rattle.rules.proofs.Damage.{rebuilt-own}
 use Rattle.promises.proofs.Demands.{inParts, OneSpoiled, calls}
 use Rattle.promises.proofs.Demands as demands
 use Rattle.acknowledgment.proofs.acknowledge.Reads as acknowledge
-use Rattle.acknowledgment.proofs.x12_acknowledge.Reads as x12-acknowledge
+use Rattle.x12.proofs.x12_acknowledge.Reads as x12-acknowledge
 
 -- 1. What may be put in.
 -- whole segments in bytes: none, or ending in the terminator
@@ -206,16 +206,16 @@ blocks-received i =
 
 -- the second call, on j, has the outcome o′; j is not too long, and its response fits the buffer
 abbrev Second : Bytes → Call → Outcome → Bytes → Type 0
-Second lent′ call o′ j = (o′ ≡ called j lent′ call) × (length j ≤ 65536) × (length (response j call) ≤ length lent′)
+Second lent′ call o′ j = (o′ ≡ called (functionalAcknowledgment j call) lent′) × (length j ≤ 65536) × (length (response j call) ≤ length lent′)
 
-module _ {i lent : Bytes} {call : Call} {o : Outcome} (p : o ≡ called i lent call) (e : o .number ≡ 0) (choice : Choice)
+module _ {i lent : Bytes} {call : Call} {o : Outcome} (p : o ≡ called (functionalAcknowledgment i call) lent) (e : o .number ≡ 0) (choice : Choice)
     (f : (k : ℕ) → Fills (delimiters i) (choice k)) {lent′ : Bytes} {o′ : Outcome} where
   spared-rebuilt : Second lent′ call o′ (rebuilt i (chosenIn i choice)) → Spared i (rebuilt i (chosenIn i choice)) choice lent lent′ call o o′
   unfolding called Allowed
   spared-rebuilt second =
       let j = rebuilt i (chosenIn i choice) in
-      let a = answer i (length lent) call in
-      let a′ = answer j (length lent′) call in
+      let a = answer (functionalAcknowledgment i call) (length lent) in
+      let a′ = answer (functionalAcknowledgment j call) (length lent′) in
       let left = buffer a (response i call) lent in
       let left′ = buffer a′ (response j call) lent′ in
       let zero : number a ≡ 0 = ap (λ (o : Outcome). o .number) (sym p) ∙ e in
@@ -251,7 +251,7 @@ pub acknowledge-spared : (κs : _) (a : _) (r : _) (s : _) → acknowledge.Post 
     (outcome r (now (s .1 .0))) (outcome r′ (now (s′ .1 .0)))
 acknowledge-spared κs a r s p e choice f κs′ a′ r′ s′ q same-bytes same-call short fits =
     spared (calls κs a r s p) e choice f (now (a′ .0)) same-bytes
-    (calls κs′ a′ r′ s′ q ∙ ap (called (now (a′ .0)) (now (a′ .1 .0))) same-call, short, fits)
+    (calls κs′ a′ r′ s′ q ∙ ap (λ (c : Call). called (functionalAcknowledgment (now (a′ .0)) c) (now (a′ .1 .0))) same-call, short, fits)
 
 -- Two calls of the face for C. Shut out: the same programs behind it.
 pub x12-acknowledge-spared : (κs : _) (a : _) (r : _) (s : _) → x12-acknowledge.Post κs a r s → r ≡ 0
@@ -264,4 +264,4 @@ pub x12-acknowledge-spared : (κs : _) (a : _) (r : _) (s : _) → x12-acknowled
     (record { number = r; size = now (s .1 .1 .1 .1 .1 .0); buffer = now (s .1 .0) })
     (record { number = r′; size = now (s′ .1 .1 .1 .1 .1 .0); buffer = now (s′ .1 .0) })
 x12-acknowledge-spared κs a r s p e choice f κs′ a′ r′ s′ q same-bytes same-call short fits =
-    spared p e choice f (now (a′ .0)) same-bytes (q ∙ ap (called (now (a′ .0)) (now (a′ .1 .0))) same-call, short, fits)
+    spared p e choice f (now (a′ .0)) same-bytes (q ∙ ap (λ (c : Call). called (functionalAcknowledgment (now (a′ .0)) c) (now (a′ .1 .0))) same-call, short, fits)

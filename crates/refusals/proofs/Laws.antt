@@ -171,23 +171,11 @@ module _ (d : Delimiters) (i : Bytes) where
   trailer-checked v p q r = rw (p, q, r)
 
   -- 6
-  pub unterminated : {n : ℕ} → n ≡ first (endRules d i) → (n ≡ 0 → ⊥) → envelopes.Faulty NotTerminated ≡ envelopeCheck d i
-  unfolding envelopeCheck endRules first
-  unterminated p h = go (isTerminated d i) refl
-    where
-      go : (b : Bool) → isTerminated d i ≡ b → envelopes.Faulty NotTerminated ≡ envelopeCheck d i
-      go true q = absurd (h (p ∙ rw q))
-      go false q = rw q
+  pub unterminated : isTerminated d i ≡ false → envelopes.Faulty NotTerminated ≡ envelopeCheck d i
+  unfolding envelopeCheck
+  unterminated e = rw e
 
-  module _ {n : ℕ} (p : n ≡ first (endRules d i)) (z : n ≡ 0) where
-    terminated : isTerminated d i ≡ true
-    unfolding endRules first
-    terminated = go (isTerminated d i) refl
-      where
-        go : (b : Bool) → isTerminated d i ≡ b → b ≡ true
-        go true q = refl
-        go false q = let six : _≡_ {A = ℕ} 0 6 = sym z ∙ p ∙ rw q in absurd (omega arith)
-
+  module _ (terminated : isTerminated d i ≡ true) where
     -- 7
     pub misplaced : envelopeOf d i ≡ Broken → envelopes.Faulty OutOfPlace ≡ envelopeCheck d i
     unfolding envelopeCheck

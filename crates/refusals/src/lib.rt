@@ -79,7 +79,7 @@ fn check_trailer(i: &[u8], d: Delimiters, envelope: Envelope) -> EnvelopeCheck
 pub fn check_envelope(i: &[u8], d: Delimiters) -> EnvelopeCheck
     ensures { λ r. ⌜ r ≡ envelopeCheck d (now (i .entry)) ⌝ }
 {
-    if isa::end_refusal(i, d) != 0 {
+    if !isa::is_terminated(i, d) {
         return EnvelopeCheck::Faulty(EnvelopeFault::NotTerminated);
     }
     match envelope::envelope_of(i, d) {

@@ -16,7 +16,7 @@ use Rattle.rules.specs.Tables.{Table}
 use Rattle.rules.specs.Groups.{groupOf, isGE, sets, tableIn, setReports, groupCodes, groupReport}
 use Rattle.rules.specs.Refusals.{hasISA, goodST, headRules, endRules, enveloped, envelopeRules, trailerRules, setRules, groupRules, refusalRules, refusal}
 use Rattle.rules.specs.Response.{fieldsOut, segmentOut, out, block, blocks, ak1, ak9, seOut, told, transactionSet, geOut, ieaOut, respond, response}
-use Rattle.rules.specs.Answers.{answer, number, buffer}
+use Rattle.rules.specs.Answers.{functionalAcknowledgment, answer, number, buffer}
 use Rattle.rules.specs.Damage.{isWhole, isInner, isFilling, Damaged, done, kept, spoiled, refilled, groupIn, setsIn, flat, rebuilt, reportIn, blocksIn, opening, closing, joined, Stays}
 use Rattle.rules.specs.declared.Call.{Call}
 use Rattle.rules.specs.declared.Answer.{Answer}
@@ -332,7 +332,7 @@ module _ (i : Bytes) (call : Call) (c : Clear i call) where
 
 -- 6. The demand. Whatever the buffers: an interchange is answered; any of its sets get other segments between header and trailer; where the
 -- result has at most 65,536 bytes and its response fits the buffer, it is answered, and what was not touched stays.
-answered-clear : (i lent : Bytes) (call : Call) → number (answer i (length lent) call) ≡ 0 → refusal i call ≡ 0
+answered-clear : (i lent : Bytes) (call : Call) → number (answer (functionalAcknowledgment i call) (length lent)) ≡ 0 → refusal i call ≡ 0
 unfolding answer
 answered-clear i lent call e = go (eqb (refusal i call) 0) refl
   where
@@ -341,13 +341,13 @@ answered-clear i lent call e = go (eqb (refusal i call) 0) refl
     go false p = rw p at e
 
 answer-written : (i lent : Bytes) (call : Call) → refusal i call ≡ 0
-    → length (response i call) ≤ length lent → answer i (length lent) call ≡ Written (length (response i call))
+    → length (response i call) ≤ length lent → answer (functionalAcknowledgment i call) (length lent) ≡ Written (length (response i call))
 unfolding answer
 answer-written i lent call e fits =
     rw (e, le-leb (length (response i call)) (length lent) fits)
 
 pub one-spoiled : (i lent : Bytes) (call : Call)
-    → number (answer i (length lent) call) ≡ 0
+    → number (answer (functionalAcknowledgment i call) (length lent)) ≡ 0
     → (after : List Set) → Damaged (delimiters i) (setsIn i) after
     → length (rebuilt i after) ≤ 65536
     → (lent′ : Bytes) → length (response (rebuilt i after) call) ≤ length lent′

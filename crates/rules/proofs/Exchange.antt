@@ -5,7 +5,7 @@ use lib.ListN.{replicate}
 use Rattle.rules.specs.Base.{Bytes, ascii}
 use Rattle.rules.specs.Refusals.{refusal}
 use Rattle.rules.specs.Response.{response}
-use Rattle.rules.specs.Answers.{Outcome, outcome, answer, buffer}
+use Rattle.rules.specs.Answers.{Outcome, functionalAcknowledgment, called}
 use Rattle.rules.specs.Program.{ackPrints}
 use Rattle.rules.specs.declared.Call.{Call}
 use Rattle.rules.proofs.Open.{everything}
@@ -54,9 +54,7 @@ closed = ascii "GE*1*77~IEA*1*000000077~"
 
 -- the outcome of the printed call on a buffer of so many bytes 7
 unfoldable pub exchange : ℕ → Outcome
-exchange room =
-    let a = answer received room sampleCall in
-    outcome a (buffer a (response received sampleCall) (replicate room 7))
+exchange room = called (functionalAcknowledgment received sampleCall) (replicate room 7)
 
 -- the response has 351 bytes: in a longer buffer the rest is as lent
 pub answered : exchange 400 ≡ record { number = 0; size = 351; buffer = sent ++ replicate 49 7 }

@@ -4,6 +4,7 @@ use mathlib.Core.Bool.{Bool, true, false, _&&_, false≢true}
 use mathlib.Core.List.{List, [], _∷_, _++_, map, append-nil, append-assoc}
 use mathlib.Core.Option.{Option}
 use Prim.Native.Nat.{ℕ, suc, _+_, _≤_}
+use borrow.Author.Tests.{ne-eqb}
 use lib.Dec.{T, eqb}
 use lib.ListN.{length, length-append}
 use Rattle.rules.specs.Base.{Bytes, ascii, null, same, last, Rule, first, if_then_else_}
@@ -14,15 +15,31 @@ use Rattle.rules.specs.Tables.{Table}
 use Rattle.rules.specs.Groups.{Group, groupOf, sets, tableIn, setReports, acceptedIn, GroupReport, groupReport}
 use Rattle.rules.specs.Refusals.{callRules, headRules, endRules, envelopeRules, trailerRules, headerRules, answerRules, setRules, groupRules, refusalRules, refusal}
 use Rattle.rules.specs.Response.{seOut, told, transactionSet}
-use Rattle.rules.specs.Answers.{Allowed, outcome}
+use Rattle.rules.specs.Answers.{Reply, fitting, answer, buffer, Allowed, outcome, called}
 use Rattle.rules.specs.declared.Call.{Call}
 use Rattle.rules.specs.declared.Answer.{Answer}
+use Rattle.rules.specs.declared.Answer.the-variants.{Refused}
 use Rattle.rules.specs.declared.Delimiters.{Delimiters}
 use Rattle.rules.proofs.Logic.{last-snoc, orElse, numbered, first-append, both-left, both-right, first-low}
 
--- 1. Two allowed outcomes coincide: the answer, and with it number and length, and every byte of the buffer.
-module _ (i lent : Bytes) (call : Call) (a₁ a₂ : Answer) (l₁ l₂ : Bytes)
-    (p : Allowed i lent call a₁ l₁) (q : Allowed i lent call a₂ l₂) where
+-- 1. What is allowed: a response where there is no refusal, and a refusal that leaves the buffer as it was. It has the outcome of the call, and two
+-- allowed outcomes coincide: the answer, and with it number and length, and every byte of the buffer.
+module _ (reply : Reply) (lent : Bytes) where
+  pub response-allowed : {a : Answer} {left : Bytes} → reply .refusal ≡ 0
+      → (a ≡ fitting (reply .response) (length lent)) × (left ≡ buffer a (reply .response) lent) → Allowed reply lent a left
+  unfolding Allowed answer
+  response-allowed e p = (rw e (p .0), p .1)
+
+  pub refusal-allowed : {n : ℕ} → n ≡ reply .refusal → (n ≡ 0 → ⊥) → Allowed reply lent (Refused n) lent
+  unfolding Allowed answer
+  refusal-allowed {n} e h = (rw (← e, ne-eqb n 0 h), refl)
+
+pub allowed-outcome : (reply : Reply) (lent : Bytes) (a : Answer) {left : Bytes} → Allowed reply lent a left → outcome a left ≡ called reply lent
+unfolding Allowed called
+allowed-outcome reply lent a p = rw (p .1, p .0)
+
+module _ (reply : Reply) (lent : Bytes) (a₁ a₂ : Answer) (l₁ l₂ : Bytes)
+    (p : Allowed reply lent a₁ l₁) (q : Allowed reply lent a₂ l₂) where
   pub once : outcome a₁ l₁ ≡ outcome a₂ l₂
   unfolding Allowed
   once = rw (p .1, q .1, p .0, q .0)

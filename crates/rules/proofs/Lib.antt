@@ -15,3 +15,5 @@ pub mod Accepting
 pub mod Unused
 pub mod Echo
 pub mod Placed
+pub mod InterchangeAcknowledgment
+pub mod Envelopes

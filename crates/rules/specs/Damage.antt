@@ -2,7 +2,6 @@
 use mathlib.Core.Path.{_≡_}
 use mathlib.Core.Bool.{Bool, true, _&&_, not}
 use mathlib.Core.List.{List, [], _∷_, _++_, map}
-use mathlib.Core.Option.{Option}
 use Prim.Native.Nat.{ℕ, _+_}
 use lib.Dec.{eqb}
 use lib.ListN.{length, take, drop, getD}
@@ -12,7 +11,7 @@ use Rattle.rules.specs.Sets.{Set, isST, isSE}
 use Rattle.rules.specs.Groups.{Group, groupOf, sets, tableIn, setReports, GroupReport, groupReport}
 use Rattle.rules.specs.Refusals.{isEnvelope}
 use Rattle.rules.specs.Response.{out, block, ak1, ak9, stOut, seOut, told, isaOut, gsOut, geOut, ieaOut, response}
-use Rattle.rules.specs.Answers.{answer, number, buffer}
+use Rattle.rules.specs.Answers.{functionalAcknowledgment, answer, number, buffer}
 use Rattle.rules.specs.declared.Call.{Call}
 use Rattle.rules.specs.declared.Delimiters.{Delimiters}
 
@@ -95,13 +94,13 @@ joined (b ∷ bs) = b ++ joined bs
 
 -- the bytes of the buffer after a call
 abbrev pub bufferAfter : Bytes → Bytes → Call → Bytes
-bufferAfter i lent call = buffer (answer i (length lent) call) (response i call) lent
+bufferAfter i lent call = buffer (answer (functionalAcknowledgment i call) (length lent)) (response i call) lent
 
 -- j, which is i with the sets after, is answered into the buffer lent. The buffer then has the opening of the response to i, the blocks,
 -- the closing and what was lent; the blocks are what the definitions say of the sets after, and an untouched set has its old block at its
 -- old place; the number of sets received and the group's codes are the old ones.
 pub record Stays (i j lent : Bytes) (after : List Set) (call : Call) : Type 0 where
-  pub answered : number (answer j (length lent) call) ≡ 0
+  pub answered : number (answer (functionalAcknowledgment j call) (length lent)) ≡ 0
   pub written : bufferAfter j lent call
       ≡ out (delimiters i) (opening i call) ++ joined (blocksIn j) ++ out (delimiters i) (closing j call)
       ++ drop (length (response j call)) lent

@@ -8,6 +8,7 @@ pub mod Sets
 pub mod Groups
 pub mod Refusals
 pub mod Response
+pub mod InterchangeAcknowledgment
 pub mod Answers
 pub mod Program
 pub mod Damage

@@ -1,15 +1,14 @@
--- "One exchange whole": what the program prints for its input, a first line with the caller's numbers and then the interchange.
+-- "One exchange whole": what a program prints for its input, a first line with the caller's numbers and then the interchange.
 use Prim.Native.Nat.{ℕ}
-use mathlib.Core.Bool.{Bool, true, false, _&&_}
-use mathlib.Core.List.{List, [], _∷_, _++_}
+use mathlib.Core.Bool.{Bool, _&&_}
+use mathlib.Core.List.{[], _∷_, _++_}
 use mathlib.Core.Option.{Option, none, some}
 use lib.Dec.{eqb}
 use lib.ListN.{take, drop, getD}
 use lib.Seq.{slice}
 use Rattle.rules.specs.Base.{Bytes, ascii, if_then_else_}
 use Rattle.rules.specs.Numbers.{digits, value, decimal}
-use Rattle.rules.specs.Response.{response}
-use Rattle.rules.specs.Answers.{answer}
+use Rattle.rules.specs.Answers.{Reply, Replies, functionalAcknowledgment, interchangeAcknowledgment, answer}
 use Rattle.rules.specs.declared.Call.{Call}
 use Rattle.rules.specs.declared.Answer.{Answer}
 use Rattle.rules.specs.declared.Answer.the-variants.{Written, Refused, TooLong}
@@ -47,21 +46,27 @@ printedAs (Written n) r = r
 printedAs (Refused n) r = refusedText n
 printedAs (TooLong n) r = refusedText 14
 
--- what is printed for an interchange under a first line, with so much room for the response
-unfoldable pub printedCall : Input → ℕ → Bytes
-printedCall i room =
-    let a = answer (i .interchange) room (callOn (i .line)) in
-    let r = response (i .interchange) (callOn (i .line)) in
-    if isCall (i .line) then printedAs a r else refusedText 1
+-- a reply as it is printed, with so much room for the response
+abbrev pub printedReply : Reply → ℕ → Bytes
+printedReply reply room = printedAs (answer reply room) (reply .response)
 
-abbrev pub printedFor : Option Input → ℕ → Bytes
-printedFor none room = refusedText 1
-printedFor (some i) room = printedCall i room
+-- what is printed of an acknowledgment for an interchange under a first line
+unfoldable pub printedCall : Replies → Input → ℕ → Bytes
+printedCall replies i room =
+    let t = printedReply (replies (i .interchange) (callOn (i .line))) room in
+    if isCall (i .line) then t else refusedText 1
 
--- what is printed for an input
-unfoldable pub printed : Bytes → ℕ → Bytes
-printed input room = printedFor (parted input) room
+abbrev pub printedFor : Replies → Option Input → ℕ → Bytes
+printedFor replies none room = refusedText 1
+printedFor replies (some i) room = printedCall replies i room
 
--- what `ack` prints for an input: it lends 65,536 bytes for the response
+-- what is printed of an acknowledgment for an input
+unfoldable pub printed : Replies → Bytes → ℕ → Bytes
+printed replies input room = printedFor replies (parted input) room
+
+-- what `ack` and `ta1` print for an input: each lends 65,536 bytes for the response
 unfoldable pub ackPrints : Bytes → Bytes
-ackPrints input = printed input 65536
+ackPrints input = printed functionalAcknowledgment input 65536
+
+unfoldable pub ta1Prints : Bytes → Bytes
+ta1Prints input = printed interchangeAcknowledgment input 65536

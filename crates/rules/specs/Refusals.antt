@@ -1,13 +1,13 @@
 -- "Refusal numbers, in the order of checking": 1 to 13, as blocks of rules under one `first`.
 use Prim.Native.Nat.{ℕ, _/_, _%_}
-use mathlib.Core.Bool.{Bool, true, false, _&&_, _||_, not}
+use mathlib.Core.Bool.{Bool, true, _&&_, _||_, not}
 use mathlib.Core.List.{List, [], _∷_, _++_}
 use lib.Dec.{leb, eqb}
 use lib.ListN.{length, take, getD}
 use Rattle.rules.specs.Base.{Bytes, Rule, _⇒_, first, null, all, any, between, isDigit, isUpper, isLower, isUpperOrDigit, ascii, same, member, last}
 use Rattle.rules.specs.Cutting.{Segment, field, isNamed, delimiters, marks, separators, valid, text, isa, segments}
 use Rattle.rules.specs.Numbers.{digits, declares, isDay, isDate, isTime}
-use Rattle.rules.specs.Sets.{Set, setsOf, outside}
+use Rattle.rules.specs.Sets.{setsOf, outside}
 use Rattle.rules.specs.Groups.{Group, groupOf}
 use Rattle.rules.specs.declared.Call.{Call}
 use Rattle.rules.specs.declared.Delimiters.{Delimiters}

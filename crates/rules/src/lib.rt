@@ -9,6 +9,8 @@ pub const ISA: [u8; 3] = *b"ISA";
 
 pub const IEA: [u8; 3] = *b"IEA";
 
+pub const TA1: [u8; 3] = *b"TA1";
+
 pub const GS: [u8; 2] = *b"GS";
 
 pub const GE: [u8; 2] = *b"GE";

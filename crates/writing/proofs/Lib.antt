@@ -1,4 +1,5 @@
 pub mod Over
 pub mod Laws
+pub mod Delivered
 pub mod Numbers
 pub mod Segments

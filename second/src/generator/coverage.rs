@@ -8,8 +8,10 @@ use std::fmt;
 /// Something the rules can say in an answer.
 #[derive(Debug, Clone, PartialEq, Eq, PartialOrd, Ord)]
 pub enum Outcome {
-    Number(u8),
-    /// A code in an AK segment: the segment's id and the code as written.
+    /// A number, and the program that gives it.
+    Number(&'static str, u8),
+    /// A code in an AK segment or in TA1: the segment's id and the code as
+    /// written.
     Code(&'static str, String),
 }
 
@@ -19,11 +21,14 @@ pub fn all_outcomes() -> Vec<Outcome> {
         let outcome = |code: &&str| Outcome::Code(id, code.to_string());
         list.iter().map(outcome).collect()
     };
-    let mut all: Vec<Outcome> = (0..=14).map(Outcome::Number).collect();
+    let number = |program| move |number| Outcome::Number(program, number);
+    let mut all: Vec<Outcome> = (0..=14).map(number("ack")).collect();
+    all.extend([0, 1, 2, 3, 4, 5, 14, 15].map(number("ta1")));
     all.extend(codes("AK3", &["1", "3", "5", "6", "7", "8"]));
     all.extend(codes("AK4", &["1", "2", "3", "4", "5", "6", "7", "8"]));
     all.extend(codes("AK5", &["A", "R", "1", "2", "3", "4", "5", "23"]));
     all.extend(codes("AK9", &["A", "P", "R", "1", "2", "3", "4", "5"]));
+    all.extend(codes("TA1", &["A", "R", "000", "001", "021", "022", "023"]));
     all
 }
 
@@ -35,11 +40,16 @@ pub struct Coverage {
 }
 
 impl Coverage {
-    pub fn count(&mut self, case: &Case, answer: &Answer) {
+    pub fn count(&mut self, case: &Case) {
         self.cases += 1;
         *self.families.entry(case.family.name()).or_default() += 1;
+        self.count_answer("ack", &case.answer());
+        self.count_answer("ta1", &case.answer_interchange());
+    }
+
+    fn count_answer(&mut self, program: &'static str, answer: &Answer) {
         let mut outcomes = response_codes(answer.response());
-        outcomes.insert(Outcome::Number(answer.number()));
+        outcomes.insert(Outcome::Number(program, answer.number()));
         for outcome in outcomes {
             *self.outcomes.entry(outcome).or_default() += 1;
         }
@@ -69,7 +79,9 @@ impl fmt::Display for Coverage {
         for outcome in all_outcomes() {
             let count = self.cases_with(&outcome);
             match outcome {
-                Outcome::Number(number) => writeln!(out, "{count:>9} number {number}")?,
+                Outcome::Number(program, number) => {
+                    writeln!(out, "{count:>9} {program} number {number}")?
+                }
                 Outcome::Code(id, code) => writeln!(out, "{count:>9} {id} {code}")?,
             }
         }
@@ -98,6 +110,7 @@ fn segment_codes(segment: &[u8], separator: u8) -> Vec<Outcome> {
         (b"AK4", [_, _, _, code, ..]) => ("AK4", vec![*code]),
         (b"AK5", [_, codes @ ..]) => ("AK5", codes.to_vec()),
         (b"AK9", [_, verdict, _, _, _, codes @ ..]) => ("AK9", [&[*verdict], codes].concat()),
+        (b"TA1", [_, _, _, _, codes @ ..]) => ("TA1", codes.to_vec()),
         _ => return Vec::new(),
     };
     let code = |code: &[u8]| Outcome::Code(id, String::from_utf8_lossy(code).into_owned());

@@ -137,6 +137,7 @@ pub fn segment(parts: &[&str], more: impl IntoIterator<Item = Vec<u8>>) -> Draft
 
 fn isa_fields(prng: &mut Prng, delimiters: &Delimiters, control: &[u8]) -> [Vec<u8>; 15] {
     let usage = *prng.pick(b"PTI");
+    let acknowledgment_requested = acknowledgment_requested(prng, delimiters);
     let mut field = |length| content::text(prng, delimiters, length);
     [
         field(2),
@@ -152,9 +153,19 @@ fn isa_fields(prng: &mut Prng, delimiters: &Delimiters, control: &[u8]) -> [Vec<
         field(1),
         field(5),
         control.to_vec(),
-        field(1),
+        vec![acknowledgment_requested],
         vec![usage],
     ]
+}
+
+/// ISA14: `1` in most drafts, else `0`, another likely byte or any valid one.
+fn acknowledgment_requested(prng: &mut Prng, delimiters: &Delimiters) -> u8 {
+    match prng.below(20) {
+        0..14 => b'1',
+        14..17 => b'0',
+        17 | 18 => *prng.pick(b" YNT2"),
+        _ => content::valid_byte(prng, delimiters),
+    }
 }
 
 fn gs(prng: &mut Prng, delimiters: &Delimiters, edition: Edition, control: &[u8]) -> DraftSegment {

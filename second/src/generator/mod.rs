@@ -10,6 +10,7 @@ pub mod coverage;
 mod days;
 mod draft;
 mod echoes;
+mod envelopes;
 mod first_line;
 mod group_damage;
 pub mod prng;
@@ -19,7 +20,7 @@ mod sizes;
 mod soup;
 
 use crate::exchange::RESPONSE_BUFFER;
-use crate::{answer, Answer};
+use crate::{answer, answer_interchange, Answer, Entry};
 use draft::Draft;
 use prng::Prng;
 
@@ -34,6 +35,8 @@ pub enum Family {
     Echoes,
     DamagedGroup,
     Soup,
+    /// With faults of the envelope, or none.
+    Envelopes,
     /// Made for one refusal number.
     Refusal(u8),
     /// Made for two refusal numbers, of which the first is the lower.
@@ -64,7 +67,7 @@ impl Family {
     }
 }
 
-/// One input of `answer`.
+/// One input of an entry.
 #[derive(Debug, Clone, PartialEq, Eq)]
 pub struct Case {
     pub family: Family,
@@ -82,12 +85,22 @@ impl Case {
         make_in_family(prng, family)
     }
 
+    /// The answer with a 997.
     pub fn answer(&self) -> Answer {
-        self.answer_into(self.buffer_length)
+        self.answer_by(answer)
     }
 
-    fn answer_into(&self, buffer_length: usize) -> Answer {
-        answer(
+    /// The answer with a TA1.
+    pub fn answer_interchange(&self) -> Answer {
+        self.answer_by(answer_interchange)
+    }
+
+    pub fn answer_by(&self, entry: Entry) -> Answer {
+        self.answer_into(entry, self.buffer_length)
+    }
+
+    fn answer_into(&self, entry: Entry, buffer_length: usize) -> Answer {
+        entry(
             &self.interchange,
             buffer_length,
             self.date,
@@ -102,7 +115,7 @@ pub fn cases(seed: u64) -> impl Iterator<Item = Case> {
     (0..).map(move |index| Case::make(seed, index))
 }
 
-/// A whole standard input for `ack`: the case of this seed and index behind a
+/// A whole standard input for a program: the case of this seed and index behind a
 /// first line, which is bad in some.
 pub fn standard_input(seed: u64, index: u64) -> Vec<u8> {
     let case = Case::make(seed, index);
@@ -120,20 +133,21 @@ pub fn standard_input(seed: u64, index: u64) -> Vec<u8> {
 /// Nearly all cases are small, so that a run of many is quick.
 fn pick_family(prng: &mut Prng) -> Family {
     match prng.below(1000) {
-        0..80 => Family::Clean,
-        80..298 => Family::DamagedSets,
-        298..338 => Family::Echoes,
-        338..340 => Family::ManyEchoes,
-        340..380 => Family::MonthEnds,
-        380..500 => Family::DamagedGroup,
-        500..640 => Family::Soup,
-        640..730 => Family::Refusal(prng.between(1, 14) as u8),
-        730..820 => {
+        0..60 => Family::Clean,
+        60..270 => Family::DamagedSets,
+        270..310 => Family::Echoes,
+        310..312 => Family::ManyEchoes,
+        312..352 => Family::MonthEnds,
+        352..452 => Family::DamagedGroup,
+        452..562 => Family::Soup,
+        562..662 => Family::Envelopes,
+        662..742 => Family::Refusal(prng.between(1, 14) as u8),
+        742..832 => {
             let one = prng.between(1, 14) as u8;
             let other = (one + prng.byte_between(0, 12)) % 14 + 1;
             Family::RefusalPair(one.min(other), one.max(other))
         }
-        820..940 => Family::DamagedBytes,
+        832..940 => Family::DamagedBytes,
         940..981 => Family::BufferEdge,
         981..986 => Family::DeepNumbers,
         986..994 => Family::NearShortest,
@@ -151,8 +165,15 @@ fn make_in_family(prng: &mut Prng, family: Family) -> Case {
         Family::Echoes => at_buffer_edge(prng, family, echoes),
         Family::DamagedGroup => as_drafted(family, &damaged_group(prng)),
         Family::Soup => as_drafted(family, &soup::soup(prng)),
-        Family::Refusal(number) => refused(prng, family, &[number]),
-        Family::RefusalPair(low, high) => refused(prng, family, &[high, low]),
+        Family::Envelopes => envelopes(prng),
+        Family::Refusal(number) => {
+            let draft = Draft::clean(prng);
+            refused(prng, family, draft, &[number])
+        }
+        Family::RefusalPair(low, high) => {
+            let draft = Draft::clean(prng);
+            refused(prng, family, draft, &[high, low])
+        }
         Family::DamagedBytes => {
             let mut case = as_drafted(family, &any_small(prng));
             byte_damage::damage_bytes(prng, &mut case.interchange);
@@ -236,10 +257,24 @@ fn any_small(prng: &mut Prng) -> Draft {
     }
 }
 
-/// A clean draft, damaged for each of the refusals. The lowest comes last, so
-/// that no other damage undoes it.
-fn refused(prng: &mut Prng, family: Family, numbers: &[u8]) -> Case {
-    let mut draft = Draft::clean(prng);
+fn envelopes(prng: &mut Prng) -> Case {
+    let mut draft = if prng.percent(75) {
+        Draft::clean(prng)
+    } else {
+        damaged_group(prng)
+    };
+    if prng.percent(50) {
+        envelopes::put_date_and_time(prng, &mut draft);
+    }
+    let numbers = envelopes::refusals(prng);
+    let mut case = refused(prng, Family::Envelopes, draft, &numbers);
+    case.buffer_length = envelopes::buffer_length(prng);
+    case
+}
+
+/// A draft, damaged for each of the refusals. The lowest comes last, so that
+/// no other damage undoes it.
+fn refused(prng: &mut Prng, family: Family, mut draft: Draft, numbers: &[u8]) -> Case {
     for &number in numbers {
         refusals::provoke_in_draft(prng, &mut draft, number);
     }
@@ -263,9 +298,9 @@ fn at_buffer_edge(prng: &mut Prng, family: Family, make: fn(&mut Prng) -> Draft)
     case
 }
 
-/// The length of the response, or 0 where it is refused in any buffer.
+/// The length of the 997, or 0 where it is refused in any buffer.
 fn needed(case: &Case) -> usize {
-    case.answer_into(usize::MAX).length()
+    case.answer_into(answer, usize::MAX).length()
 }
 
 /// A buffer length that fits exactly, is a little off or far off.

@@ -165,27 +165,104 @@ fn spoil_envelope_order(prng: &mut Prng, draft: &mut Draft) {
     }
 }
 
+/// One of the three tests of IEA fails, or two, or all.
 fn spoil_iea(prng: &mut Prng, draft: &mut Draft) {
+    match prng.below(16) {
+        0..4 => spoil_iea_group_count(prng, draft),
+        4..9 => spoil_iea_control_number(prng, draft),
+        9..11 => spoil_iea_elements(prng, draft),
+        11 | 12 => {
+            spoil_iea_group_count(prng, draft);
+            spoil_iea_control_number(prng, draft);
+        }
+        13 => {
+            set_iea(draft, 1, "");
+            set_iea(draft, 2, "");
+        }
+        14 => {
+            spoil_iea_control_number(prng, draft);
+            spoil_iea_elements(prng, draft);
+        }
+        _ => {
+            spoil_iea_group_count(prng, draft);
+            spoil_iea_control_number(prng, draft);
+            spoil_iea_elements(prng, draft);
+        }
+    }
+}
+
+fn spoil_iea_group_count(prng: &mut Prng, draft: &mut Draft) {
+    let bad = [
+        "",
+        "",
+        "0",
+        "2",
+        "10",
+        "11",
+        "00000",
+        "257",
+        "65537",
+        "000001",
+        "000001",
+        "0000000001",
+        "4294967297",
+        "-1",
+        "+1",
+        "1 ",
+        " 1",
+        "A",
+    ];
+    set_iea(draft, 1, *prng.pick(&bad));
+}
+
+fn spoil_iea_control_number(prng: &mut Prng, draft: &mut Draft) {
+    if prng.percent(20) {
+        start_with_zeros(prng, draft);
+    }
+    let right = draft.isa[12].clone();
+    let at = *prng.pick(&[0, 0, 1, 4, 7, 8, 8]);
+    let mut control = right.clone();
+    match prng.below(8) {
+        0 => control.clear(),
+        1 => control.truncate(at),
+        2 => control.push(*prng.pick(b"0 ")),
+        3 => control.insert(0, *prng.pick(b"0 ")),
+        4 => {
+            let zeros = right.iter().take_while(|&&digit| digit == b'0').count();
+            control.drain(..zeros.max(1));
+        }
+        _ => control[at] = other_digit(prng, control[at]),
+    }
+    set_iea(draft, 2, control);
+}
+
+/// Gives the interchange a control number with zeros before its value.
+fn start_with_zeros(prng: &mut Prng, draft: &mut Draft) {
+    let zeros = prng.between(1, 8);
+    draft.isa[12][..zeros].fill(b'0');
+    let control = draft.isa[12].clone();
+    set_iea(draft, 2, control);
+}
+
+fn other_digit(prng: &mut Prng, digit: u8) -> u8 {
+    b'0' + (digit - b'0' + prng.byte_between(1, 9)) % 10
+}
+
+fn spoil_iea_elements(prng: &mut Prng, draft: &mut Draft) {
     let Some(iea) = draft.segments.last_mut() else {
         return;
     };
     match prng.below(4) {
-        0 => iea.truncate(prng.between(1, 2)),
-        1 => iea.push(prng.pick(&["", "1"]).as_bytes().to_vec()),
-        2 => {
-            let count = *prng.pick(&["", "0", "2", "10", "000001", "-1", "1 ", "A"]);
-            set_element(iea, 1, count);
-        }
-        _ => {
-            let mut control = draft.isa[12].clone();
-            let at = prng.below(control.len());
-            match prng.below(3) {
-                0 => control.truncate(at),
-                1 => control.push(b'0'),
-                _ => control[at] = if control[at] == b'9' { b'0' } else { b'9' },
-            }
-            set_element(iea, 2, control);
-        }
+        0 => iea.truncate(1),
+        1 => iea.truncate(2),
+        2 => iea.push(prng.pick(&["", "", "1"]).as_bytes().to_vec()),
+        _ => iea.extend([Vec::new(), Vec::new()]),
+    }
+}
+
+fn set_iea(draft: &mut Draft, place: usize, value: impl Into<Vec<u8>>) {
+    if let Some(iea) = draft.segments.last_mut() {
+        set_element(iea, place, value);
     }
 }
 

@@ -2,7 +2,7 @@
 
 #![allow(dead_code)] // Each test file uses a part of this.
 
-use second::{answer, Answer};
+use second::{answer, answer_interchange, Answer};
 
 pub const DATE: u32 = 20240315;
 pub const TIME: u32 = 930;
@@ -26,6 +26,10 @@ pub const RESPONSE_TAIL: &str = "GE*1*77~IEA*1*000000077~";
 
 pub fn ask(interchange: &[u8]) -> Answer {
     answer(interchange, BUFFER, DATE, TIME, CONTROL)
+}
+
+pub fn ask_for_ta1(interchange: &[u8]) -> Answer {
+    answer_interchange(interchange, BUFFER, DATE, TIME, CONTROL)
 }
 
 /// The number given to an interchange in the numbers and the buffer above.

@@ -1,6 +1,7 @@
 -- `acknowledgment::answer_group` meets its contract: the scope is that of GS.
 use mathlib.Core.Path.{_∙_}
-use Rattle.acknowledgment.proofs.Answering.{answerable, allowed}
+use Rattle.rules.proofs.Facts.{response-allowed}
+use Rattle.acknowledgment.proofs.Answering.{answerable}
 use borrow.Author.Needs.{needs}
 use Rattle.acknowledgment.proofs.answer_group.Statement.{statement}
 use Rattle.acknowledgment.proofs.answer_group.Tie as tie
@@ -14,7 +15,7 @@ respond-requires c κs =
 returns : tie.Need-returns
 returns c =
     let answer = c .before .before in
-    allowed _ _ _ (answer .before .before .before .before .before .before .pre .0) (answer .respond .ensures)
+    response-allowed _ _ (answer .before .before .before .before .before .before .pre .0) (answer .respond .ensures)
 
 pub answer-group-spec : {M : Type 1} → statement M
 answer-group-spec = tie.close (tie.spec (λ c κs. search needs) (λ c κs. search needs) respond-requires (λ c. search needs) returns)

@@ -14,10 +14,10 @@ part-print-answer-start : tie.Need-part-print-answer-start
 part-print-answer-start c = starts-within _ (sym (c .before .before .call .given .1) ∙ c .before .before .before .before .call-of .ensures)
 
 returns : tie.Need-returns
-returns c = exchanged _ (sym (c .before .before .before .before .before .before .call .given .1) ∙ c .before .before .before .before .before .before .before .before .call-of .ensures) (rw rest at (c .before .before .print-answer .ensures)) (omega arith)
+returns c = exchanged _ _ (sym (c .before .before .before .before .before .before .call .given .1) ∙ c .before .before .before .before .before .before .before .before .call-of .ensures) (rw rest at (c .before .before .print-answer .ensures)) (omega arith)
 
 returns-2 : tie.Need-returns-2
-returns-2 c = exchanged _ (sym (c .before .before .before .before .enum-told .given .1) ∙ c .before .before .before .before .before .before .call-of .ensures) (c .before .before .put-refused .ensures) (omega arith)
+returns-2 c = exchanged _ _ (sym (c .before .before .before .before .enum-told .given .1) ∙ c .before .before .before .before .before .before .call-of .ensures) (c .before .before .put-refused .ensures) (omega arith)
 
 pub exchange-spec : {M : Type 1} → statement M
 exchange-spec =

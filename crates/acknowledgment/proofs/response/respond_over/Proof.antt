@@ -3,8 +3,8 @@ use native.Mathlib.Omega.{arith}
 use Rattle.rules.specs.Response.{response}
 use Rattle.rules.proofs.Bound.{response-bound}
 use Rattle.writing.proofs.Laws.{lend}
+use Rattle.writing.proofs.Delivered.{too-long, written}
 use Rattle.acknowledgment.proofs.Responses.{by-tables, sets-open, response-measured, response-written}
-use Rattle.acknowledgment.proofs.Answering.{too-long, written}
 use borrow.Author.Needs.{needs}
 use Rattle.acknowledgment.proofs.response.respond_over.Statement.{statement}
 use Rattle.acknowledgment.proofs.response.respond_over.Tie as tie

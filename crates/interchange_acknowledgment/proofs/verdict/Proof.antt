@@ -1,0 +1,13 @@
+-- `interchange_acknowledgment::verdict` meets its contract.
+use borrow.Author.Tests.{eq-eqb, ne-eqb}
+use Rattle.interchange_acknowledgment.proofs.verdict.Statement.{statement}
+use Rattle.interchange_acknowledgment.proofs.verdict.Tie as tie
+
+returns : tie.Need-returns
+returns c = rw (eq-eqb _ 0 (c .if1 .taken))
+
+returns-2 : tie.Need-returns-2
+returns-2 c = rw (ne-eqb _ 0 (c .if1 .left))
+
+pub verdict-spec : {M : Type 1} → statement M
+verdict-spec = tie.close (tie.spec returns returns-2)
