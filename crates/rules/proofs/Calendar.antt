@@ -57,7 +57,7 @@ wasDay n = between 1 12 (n / 100 % 100) && between 1 31 (n % 100)
 
 longest : (year month : ℕ) → monthLength year month ≤ 31
 unfolding monthLength
-longest year month = first-low 31 _ refl
+longest year month = first-low 28 31 _ refl
 
 -- Shut out: a program that takes month 13 or day 32 in some year.
 pub was-day : (n : ℕ) → isDay n ≡ true → wasDay n ≡ true

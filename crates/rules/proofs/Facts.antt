@@ -87,7 +87,7 @@ segments-counted st02 g =
 -- 5. A refusal number is at most 13.
 pub refusal-low : (i : Bytes) (call : Call) → refusal i call ≤ 13
 unfolding refusal refusalRules callRules headRules endRules envelopeRules trailerRules groupRules headerRules answerRules setRules
-refusal-low i call = first-low 13 (refusalRules i call) refl
+refusal-low i call = first-low 1 13 (refusalRules i call) refl
 
 -- 6. The refusal is that of the first block of rules that has one.
 unfoldable pub firstOf : List ℕ → ℕ

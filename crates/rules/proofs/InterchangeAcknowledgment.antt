@@ -19,7 +19,7 @@ use Rattle.rules.specs.Response.{fieldsOut, segmentOut, out, isaOut, iea
 use Rattle.rules.specs.InterchangeAcknowledgment.{noteCodeRules, Verdict, verdictBy, interchangeVerdict, asksForTA1, interchangeRules, interchangeRefusal, ta1, interchangeRespond, interchangeResponse}
 use Rattle.rules.specs.declared.Call.{Call}
 use Rattle.rules.specs.declared.Delimiters.{Delimiters}
-use Rattle.rules.proofs.Logic.{and-left, and-right, numbered, silent, first-append}
+use Rattle.rules.proofs.Logic.{and-left, numbered, silent, first-append, first-in, first-low}
 use Rattle.rules.proofs.Lengths.{padded-length}
 
 -- what stands between two places of a text
@@ -211,19 +211,6 @@ module _ (i : Bytes) where
       accepted z (inr r) = absurd (omega (arith, z, r .0))
 
 -- 3. The refusals of the two entries, stage by stage.
--- all numbers of the rules are between lo and hi, and so is the first, unless it is 0
-abbrev numberedIn : ℕ → ℕ → List Rule → Bool
-numberedIn lo hi [] = true
-numberedIn lo hi ((b ⇒ n) ∷ rs) = between lo hi n && numberedIn lo hi rs
-
-first-in : (lo hi : ℕ) (rs : List Rule) → numberedIn lo hi rs ≡ true → (first rs ≡ 0) ⊎ ((lo ≤ first rs) × (first rs ≤ hi))
-unfolding first
-first-in lo hi [] e = inl refl
-first-in lo hi ((true ⇒ n) ∷ rs) e =
-    let within = and-left (between lo hi n) (numberedIn lo hi rs) e in
-    inr (leb-true lo n (and-left (leb lo n) (leb n hi) within), leb-true n hi (and-right (leb lo n) (leb n hi) within))
-first-in lo hi ((false ⇒ n) ∷ rs) e = first-in lo hi rs (and-right (between lo hi n) (numberedIn lo hi rs) e)
-
 -- Of two blocks the first decides, where it has a number, and else the second.
 abbrev Turn : List Rule → List Rule → ℕ → Type 0
 Turn rs ss n = ((first rs ≡ 0) × (n ≡ first ss)) ⊎ ((first rs ≡ 0 → ⊥) × (n ≡ first rs))
@@ -254,9 +241,9 @@ module _ (i : Bytes) (call : Call) where
     envelope : first openingRules ≡ 0 → (first (verdictRules i) ≡ 0 → ⊥) → refusal i call ≡ first (verdictRules i) → Decided
     inside : first openingRules ≡ 0 → first (verdictRules i) ≡ 0 → (refusal i call ≡ 0) ⊎ (9 ≤ refusal i call) → Decided
 
-  opening-in : (first openingRules ≡ 0) ⊎ ((1 ≤ first openingRules) × (first openingRules ≤ 5))
+  opening-low : first openingRules ≤ 5
   unfolding callRules headRules
-  opening-in = first-in 1 5 openingRules refl
+  opening-low = first-low 1 5 openingRules refl
 
   body-in : (first bodyRules ≡ 0) ⊎ ((9 ≤ first bodyRules) × (first bodyRules ≤ 13))
   unfolding groupRules headerRules answerRules setRules
@@ -277,10 +264,6 @@ module _ (i : Bytes) (call : Call) where
   decided : Decided
   decided = by-opening (turn openingRules (verdictRules i ++ bodyRules) opening-numbered in-stages)
     where
-      few : (first openingRules ≡ 0) ⊎ ((1 ≤ first openingRules) × (first openingRules ≤ 5)) → first openingRules ≤ 5
-      few (inl z) = omega arith
-      few (inr h) = h .1
-
       late : refusal i call ≡ first bodyRules → (first bodyRules ≡ 0) ⊎ ((9 ≤ first bodyRules) × (first bodyRules ≤ 13))
           → (refusal i call ≡ 0) ⊎ (9 ≤ refusal i call)
       late e (inl z) = inl (e ∙ z)
@@ -292,7 +275,7 @@ module _ (i : Bytes) (call : Call) where
 
       by-opening : Turn openingRules (verdictRules i ++ bodyRules) (refusal i call) → Decided
       by-opening (inl p) = by-verdict (p .0) (turn (verdictRules i) bodyRules verdict-numbered (p .1))
-      by-opening (inr p) = early (p .0) (p .1) (rw (p .1) (few opening-in))
+      by-opening (inr p) = early (p .0) (p .1) (rw (p .1) opening-low)
 
   -- the stages of the other entry
   asked-stages : Turn openingRules ((not (asksForTA1 i) ⇒ 15) ∷ []) (interchangeRefusal i call)

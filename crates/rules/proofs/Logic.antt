@@ -1,6 +1,7 @@
 -- Laws of tests, lists and rules that hold whatever they are about.
 use mathlib.Core.Path.{_≡_, refl, ap, subst⁻¹}
 use mathlib.Core.Bool.{Bool, true, false, _&&_, _||_, not, false≢true, true≢false}
+use mathlib.Core.Logic.{_⊎_, inl, inr}
 use mathlib.Core.List.{List, [], _∷_, _++_, map}
 use Prim.Native.Nat.{ℕ, zero, suc, _≤_, _<_}
 use native.Mathlib.Nat.{not-suc-le-zero, le-of-suc-le-suc}
@@ -8,7 +9,7 @@ use native.Mathlib.Omega.{arith}
 use borrow.Author.Tests.{eqb-true, leb-true}
 use lib.Dec.{T, T-not, leb, eqb}
 use lib.ListN.{length, getD, take}
-use Rattle.rules.specs.Base.{Bytes, same, all, any, front, last, Rule, _⇒_, first, every}
+use Rattle.rules.specs.Base.{Bytes, same, all, any, front, last, between, Rule, _⇒_, first, every}
 
 pub and-left : (a b : Bool) → a && b ≡ true → a ≡ true
 and-left true b e = refl
@@ -160,16 +161,25 @@ silent ((true ⇒ n) ∷ rs) t e =
     absurd (T-not (eqb n 0) (both-left (not (eqb n 0)) (numbered rs) t) (subst⁻¹ (λ (m : ℕ). T (eqb m 0)) e tt))
 silent ((false ⇒ n) ∷ rs) t e = (refl, silent rs (both-right (not (eqb n 0)) (numbered rs) t) e)
 
--- no rule of the list gives more than `most`, and so not the first that applies
-abbrev pub low : ℕ → List Rule → Bool
-low most [] = true
-low most ((b ⇒ n) ∷ rs) = leb n most && low most rs
+-- all numbers of the rules are between lo and hi, and so is that of the first that applies
+abbrev pub numberedIn : ℕ → ℕ → List Rule → Bool
+numberedIn lo hi [] = true
+numberedIn lo hi ((b ⇒ n) ∷ rs) = between lo hi n && numberedIn lo hi rs
 
-pub first-low : (most : ℕ) (rs : List Rule) → low most rs ≡ true → first rs ≤ most
+pub first-in : (lo hi : ℕ) (rs : List Rule) → numberedIn lo hi rs ≡ true → (first rs ≡ 0) ⊎ ((lo ≤ first rs) × (first rs ≤ hi))
 unfolding first
-first-low most [] e = omega arith
-first-low most ((true ⇒ n) ∷ rs) e = leb-true n most (and-left (leb n most) (low most rs) e)
-first-low most ((false ⇒ n) ∷ rs) e = first-low most rs (and-right (leb n most) (low most rs) e)
+first-in lo hi [] e = inl refl
+first-in lo hi ((true ⇒ n) ∷ rs) e =
+    let within = and-left (between lo hi n) (numberedIn lo hi rs) e in
+    inr (leb-true lo n (and-left (leb lo n) (leb n hi) within), leb-true n hi (and-right (leb lo n) (leb n hi) within))
+first-in lo hi ((false ⇒ n) ∷ rs) e = first-in lo hi rs (and-right (between lo hi n) (numberedIn lo hi rs) e)
+
+pub first-low : (lo hi : ℕ) (rs : List Rule) → numberedIn lo hi rs ≡ true → first rs ≤ hi
+first-low lo hi rs e = go (first-in lo hi rs e)
+  where
+    go : (first rs ≡ 0) ⊎ ((lo ≤ first rs) × (first rs ≤ hi)) → first rs ≤ hi
+    go (inl z) = omega arith
+    go (inr h) = h .1
 
 -- 3. What holds of each of a list.
 module _ {A : Type 0} (P : A → Type 0) where
