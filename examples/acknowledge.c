@@ -1,5 +1,5 @@
 /*
- * acknowledge FILE: answers the exchange in a file with its 997.
+ * acknowledge FILE: answers the exchange in a file with a 997 for each group.
  */
 #include "acknowledgment.h"
 #include "exchange.h"

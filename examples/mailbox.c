@@ -1,6 +1,6 @@
 /*
  * mailbox FILE: answers the exchange in a file as a mailbox does. A partner who
- * asks for it gets a TA1. Unless that rejects his interchange, the 997 follows.
+ * asks for it gets a TA1. Unless that rejects his interchange, the 997s follow.
  */
 #include "acknowledgment.h"
 #include "exchange.h"
@@ -23,12 +23,12 @@ int main(int argc, char **argv)
     if (ta1 == 0) {
         if (response[TA104] == 'R')
             return EXIT_SUCCESS;
-        /* Its control number is used. The 997 has the next, and after the last comes the first. */
+        /* Its control number is used. The 997s have the next, and after the last comes the first. */
         exchange.control = exchange.control % 999999999 + 1;
     }
 
-    uint32_t group = x12_acknowledge(exchange.interchange, exchange.length, response, RESPONSE,
-                                     exchange.date, exchange.time, exchange.control, &length);
-    print_answer(group, response, length);
-    return ta1 == 0 || group == 0 ? EXIT_SUCCESS : EXIT_FAILURE;
+    uint32_t groups = x12_acknowledge(exchange.interchange, exchange.length, response, RESPONSE,
+                                      exchange.date, exchange.time, exchange.control, &length);
+    print_answer(groups, response, length);
+    return ta1 == 0 || groups == 0 ? EXIT_SUCCESS : EXIT_FAILURE;
 }

@@ -1,7 +1,8 @@
 /*
  * The acknowledgment of one X12 interchange, by two functions:
  *
- *   x12_acknowledge              answers its functional group, with a 997
+ *   x12_acknowledge              answers its functional groups, up to 16, with
+ *                                a 997 each, in one response
  *   x12_acknowledge_interchange  answers its envelope, with a TA1, where the
  *                                partner asks for it: ISA14 is 1
  *
@@ -11,7 +12,7 @@
  * interchange; it returns 15 where the partner does not ask. Call the first for
  * every interchange that no TA1 rejects. The two agree: where a TA1 is written,
  * it says R exactly where x12_acknowledge, given numbers that are right, refuses
- * with 6, 7 or 8. So a 997 is only written where a TA1 would say A. Give each
+ * with 6, 7 or 8. So 997s are only written where a TA1 would say A. Give each
  * response that you send a control number of its own.
  *
  * Link libacknowledgment.a (scripts/archive makes it) and nothing else but the
@@ -71,19 +72,27 @@ extern "C" {
  */
 
 /*
- * Answers the group with a 997, whatever ISA14 is. An AK4 with code 4, 5, 7, 8,
- * 9 or 10 shows the first 99 bytes of the element as received, unless the
- * element has a byte that is not valid.
+ * Answers each group with a 997, whatever ISA14 is. The response has one group
+ * of them, in the order of the groups: ST02 and SE02 are 0001 for the first, and
+ * go up to 0016; GE01 is their number. Its GS02 and GS03 are GS03 and GS02 of
+ * the first group. But for ST02 and SE02 each 997 has the bytes that its group
+ * would get alone in its interchange.
  *
- * Refuses with 1 to 5, and then:
+ * An AK4 with code 4, 5, 7, 8, 9 or 10 shows the first 99 bytes of the element
+ * as received, unless the element has a byte that is not valid.
+ *
+ * Refuses with 1 to 5, and then with the numbers below. 9 to 13 are tested on one
+ * group before the next; a group that is refused refuses the interchange.
  *
  *    6  the last byte is not the segment terminator
- *    7  ISA, GS, GE and IEA are not in their places
- *    8  IEA is wrong
- *    9  GS is wrong
- *   10  the group is itself an acknowledgment
- *   11  a segment of the group lies outside every transaction set
- *   12  the group has no transaction set
+ *    7  ISA, GS, GE and IEA are not in their places: between ISA and IEA stand
+ *       1 to 16 whole groups and nothing else; the last GE may be missing
+ *    8  IEA does not have two elements, IEA01 is not the number of groups, or
+ *       IEA02 is not ISA13
+ *    9  GS of a group is wrong
+ *   10  a group is itself an acknowledgment
+ *   11  a segment of a group lies outside every transaction set
+ *   12  a group has no transaction set
  *   13  ST01 or ST02 of a transaction set is wrong
  *   14  the response does not fit
  *
@@ -99,12 +108,12 @@ uint32_t x12_acknowledge(const uint8_t *interchange, size_t interchange_length,
  * and IEA. TA104, at offset 132, is A or R, and TA105, from offset 134 on, is
  * the note code. What fails tests 6 to 8 is no refusal here:
  *
- *   A 000  the envelope is right. What the group holds is not looked at.
+ *   A 000  the envelope is right. What the groups hold is not looked at.
  *   R 023  the last byte is not the segment terminator
- *   R 022  ISA, GS, GE and IEA are not in their places, or IEA does not have
- *          two elements
+ *   R 022  ISA, GS, GE and IEA are not in their places, there are more than 16
+ *          groups, or IEA does not have two elements
  *   R 001  IEA02 is not ISA13
- *   R 021  IEA01 is not the number of groups, 1, in one to five digits
+ *   R 021  IEA01 is not the number of groups in one to five digits
  *
  * Of several faults the first in this list is told. TA101, TA102 and TA103 are
  * ISA13, ISA09 and ISA10 as received.
@@ -114,7 +123,7 @@ uint32_t x12_acknowledge(const uint8_t *interchange, size_t interchange_length,
  *   15  ISA14 is not 1
  *   14  the response does not fit: the buffer has less than 154 bytes
  *
- * A call takes less than 1 KiB of stack (as measured on x86-64).
+ * A call takes less than 2 KiB of stack (as measured on x86-64).
  */
 uint32_t x12_acknowledge_interchange(const uint8_t *interchange,
                                      size_t interchange_length,

@@ -45,29 +45,46 @@ fn input(name: impl Into<String>, interchange: impl Into<Vec<u8>>) -> Input {
 }
 
 const ISA: &str = "ISA*00*          *00*          *ZZ*CARRIERA       *ZZ*BROKERB        *240315*0915*U*00601*000000042*0*T*>~";
-const GS: &str = "GS*GF*CARRA*BROKB*20240315*0915*42*X*006010~";
 
-fn interchange(sets: usize, group: &str) -> String {
-    format!("{ISA}{GS}{group}GE*{sets}*42~IEA*1*000000042~")
+/// GS, so many sets and GE.
+fn enclosed(sets: usize, body: &str) -> String {
+    format!("GS*GF*CARRA*BROKB*20240315*0915*42*X*006010~{body}GE*{sets}*42~")
 }
 
-/// A group of so many sets, each made from its control number.
+/// One group of so many sets.
+fn interchange(sets: usize, body: &str) -> String {
+    format!("{ISA}{}IEA*1*000000042~", enclosed(sets, body))
+}
+
+/// So many sets, each made from its control number.
+fn body(sets: usize, set: impl Fn(usize) -> String) -> String {
+    (1..=sets).map(set).collect()
+}
+
 fn group(sets: usize, set: impl Fn(usize) -> String) -> String {
-    let group: String = (1..=sets).map(set).collect();
-    interchange(sets, &group)
+    interchange(sets, &body(sets, set))
+}
+
+/// So many groups of so many sets each. The control numbers are the same in each group.
+fn groups(groups: usize, sets: usize, set: impl Fn(usize) -> String) -> String {
+    let group = enclosed(sets, &body(sets, set));
+    format!("{ISA}{}IEA*{groups}*000000042~", group.repeat(groups))
 }
 
 fn clean_set(number: usize) -> String {
     format!("ST*990*{number:04}~B1*ABCD*L{number:04}*20240315*A~L11*4711*CN~SE*4*{number:04}~")
 }
 
-/// Clean sets of so many bytes together: the last one's B102 fills them up.
-fn clean_group_of(bytes: usize) -> String {
-    let sets = bytes / clean_set(1).len();
-    let mut group: String = (1..=sets).map(clean_set).collect();
-    let (before, after) = group.rsplit_once("*2024").expect("each set has a date");
-    group = format!("{before}{}*2024{after}", "X".repeat(bytes - group.len()));
-    interchange(sets, &group)
+/// Clean sets in an interchange of so many bytes: what is left over goes to the first sets' B102, a byte each.
+fn clean_interchange_of(bytes: usize) -> String {
+    let room = bytes - interchange(10, "").len();
+    let (sets, rest) = (room / clean_set(1).len(), room % clean_set(1).len());
+    let interchange = group(sets, |number| match clean_set(number) {
+        set if number <= rest => set.replacen("*2024", "X*2024", 1),
+        set => set,
+    });
+    assert_eq!(interchange.len(), bytes);
+    interchange
 }
 
 fn faulty_set(number: usize) -> String {
@@ -138,11 +155,17 @@ pub fn answered() -> Vec<Input> {
         .into();
     inputs.extend([4096, 4097].map(|bytes| {
         input(
-            format!("clean sets of {bytes} bytes"),
-            clean_group_of(bytes),
+            format!("clean sets in an interchange of {bytes} bytes"),
+            clean_interchange_of(bytes),
         )
     }));
     inputs.extend([
+        input("880 clean sets", group(880, clean_set)),
+        input("55 clean sets", group(55, clean_set)),
+        input("16 groups of 55 clean sets each", groups(16, 55, clean_set)),
+        input("16 clean sets", group(16, clean_set)),
+        input("one clean set", group(1, clean_set)),
+        input("16 groups of one clean set each", groups(16, 1, clean_set)),
         input("900 faulty sets", group(900, faulty_set)),
         input(
             "400 sets, each with a value of 100 bytes that is too long",

@@ -1,7 +1,9 @@
-//! The library against the second program, and its two entries against each
-//! other, on generated cases.
+//! The library against the second program, its two entries against each other,
+//! and its answers to several groups against those to each alone, on generated
+//! cases.
 
 use crate::agreement::agree;
+use crate::alone::each_as_alone;
 use crate::outcome::{Outcome, Outcomes};
 use crate::show;
 use crate::shrink::shrunk;
@@ -10,7 +12,8 @@ use second::generator::Case;
 use std::io;
 
 /// Compares number, length and the whole buffer of both entries on the cases
-/// of a seed, and asks that the library's entries agree.
+/// of a seed, and asks that the library's entries agree and that each group
+/// gets the 997 that it gets alone.
 pub fn compare(
     library: impl Fn(&Case, u8) -> Outcomes,
     seed: u64,
@@ -21,16 +24,21 @@ pub fn compare(
         let case = Case::make(seed, index);
         // Another byte for each case, so that none can hide what was not written.
         let lent = index as u8;
+        let acknowledging = |case: &Case| library(case, lent).acknowledgment;
         let differs = |case: &Case| {
             let outcomes = library(case, lent);
-            outcomes != Outcomes::of_second(case, lent) || !agree(case, &outcomes)
+            outcomes != Outcomes::of_second(case, lent)
+                || !agree(case, &outcomes)
+                || !each_as_alone(acknowledging, case, &outcomes.acknowledgment)
         };
         if differs(&case) {
             let name = format!("case-{seed}-{index}");
             tally.fail(&name, || {
                 let small = shrunk(&case, differs);
                 let second = Outcomes::of_second(&small, lent);
-                difference(&small, &library(&small, lent), &second)
+                let library = library(&small, lent);
+                let as_alone = each_as_alone(acknowledging, &small, &library.acknowledgment);
+                difference(&small, &library, &second, as_alone)
             })?;
         } else {
             tally.pass();
@@ -39,14 +47,19 @@ pub fn compare(
     Ok(())
 }
 
-fn difference(case: &Case, library: &Outcomes, second: &Outcomes) -> String {
+fn difference(case: &Case, library: &Outcomes, second: &Outcomes, as_alone: bool) -> String {
     let agreement = if agree(case, library) {
         "The library's entries agree."
     } else {
         "The library's entries do not agree."
     };
+    let alone = if as_alone {
+        "The library gives each group the 997 that it gets alone."
+    } else {
+        "The library gives a group another 997 than alone."
+    };
     format!(
-        "{}\nThe 997.\n{}\nThe TA1.\n{}\n{agreement}\n",
+        "{}\nThe 997.\n{}\nThe TA1.\n{}\n{agreement}\n{alone}\n",
         show::case(case),
         answers(&library.acknowledgment, &second.acknowledgment),
         answers(&library.interchange, &second.interchange),
@@ -152,6 +165,26 @@ mod tests {
                 outcome.buffer_mut().fill(b' ');
             }
         });
+    }
+
+    #[test]
+    fn another_997_for_a_group_alone_is_caught() {
+        let is_asked_alone = |case: &Case| case.buffer_length == 32 * case.interchange.len();
+        let (told, folder) = told("alone", |case, outcomes| {
+            if is_asked_alone(case) && outcomes.acknowledgment.number == 0 {
+                outcomes.acknowledgment.number = 7;
+            }
+        });
+        assert!(!told.ends_with(", 0 failed"), "{told}");
+        for file in fs::read_dir(&folder).unwrap() {
+            let text = fs::read_to_string(file.unwrap().path()).unwrap();
+            assert!(text.contains("The library's entries agree."), "{text}");
+            assert!(
+                text.contains("The library gives a group another 997 than alone."),
+                "{text}"
+            );
+        }
+        fs::remove_dir_all(folder).unwrap();
     }
 
     #[test]

@@ -1,12 +1,13 @@
-//! Demand 3: one spoiled set stays one spoiled set.
+//! Demand 3: a spoiled set spoils no other.
 //!
-//! Where one set of an interchange has other segments between its header and
-//! its trailer, the interchange is still answered, and the blocks of all other
-//! sets, the number of sets and the codes of the group stay as they were.
+//! Where some sets of an interchange have other segments between header and
+//! trailer, the interchange is still answered. A group without such a set
+//! keeps its 997. In any other group the blocks of all other sets, the number
+//! of sets and the codes of the group stay as they were.
 
 use crate::outcome::Outcome;
 use crate::pair::Pair;
-use crate::response::Response;
+use crate::response::{Acknowledgment, Response};
 use crate::show;
 use crate::tally::Tally;
 use second::generator::Case;
@@ -22,6 +23,9 @@ enum Fault {
     Not997,
     Delimiters,
     Opening,
+    NumberOf997s,
+    OtherGroup,
+    OpeningOfGroup,
     OtherSet,
     HeaderOfSpoiledSet,
     NumberOfBlocks,
@@ -31,6 +35,7 @@ enum Fault {
     VerdictOnGroup,
     AcceptedSets,
     SegmentCount,
+    NumberInTrailer,
     Closing,
 }
 
@@ -59,14 +64,22 @@ pub fn check(
 
 fn told(fault: Fault, pair: &Pair, before: &Outcome, after: &Outcome) -> String {
     format!(
-        "{fault:?}, when set {} of {} is spoiled.\n\nBefore: {}\n{}\nAfter: {}\n{}",
-        pair.spoiled + 1,
-        pair.sets,
+        "{fault:?}, when these are spoiled: {}.\n\nBefore: {}\n{}\nAfter: {}\n{}",
+        spoiled_sets(pair),
         show::case(&pair.before),
         show::outcome(before),
         show::case(&pair.after),
         show::outcome(after),
     )
+}
+
+fn spoiled_sets(pair: &Pair) -> String {
+    let mut names = Vec::new();
+    for (group, sets) in (1..).zip(&pair.spoiled) {
+        let spoiled = (1..).zip(sets).filter(|(_, &spoiled)| spoiled);
+        names.extend(spoiled.map(|(set, _)| format!("set {set} of group {group}")));
+    }
+    names.join(", ")
 }
 
 fn fault(pair: &Pair, before: &Outcome, after: &Outcome) -> Option<Fault> {
@@ -78,46 +91,68 @@ fn fault(pair: &Pair, before: &Outcome, after: &Outcome) -> Option<Fault> {
     let (Some(before), Some(after)) = (before, after) else {
         return Some(Fault::Not997);
     };
-    miscounted(pair.sets, &before)
-        .or_else(|| miscounted(pair.sets, &after))
-        .or_else(|| changed(pair.spoiled, &before, &after))
+    let groups = pair.spoiled.len();
+    let around_groups = first(&[
+        (before.delimiters != after.delimiters, Fault::Delimiters),
+        (before.opening != after.opening, Fault::Opening),
+        (before.acknowledgments.len() != groups, Fault::NumberOf997s),
+        (after.acknowledgments.len() != groups, Fault::NumberOf997s),
+        (before.closing != after.closing, Fault::Closing),
+    ]);
+    let acknowledgments = before.acknowledgments.iter().zip(&after.acknowledgments);
+    let mut in_groups = pair.spoiled.iter().zip(acknowledgments);
+    around_groups.or_else(|| {
+        in_groups.find_map(|(spoiled, (before, after))| fault_of_group(spoiled, before, after))
+    })
 }
 
-fn changed(spoiled: usize, before: &Response, after: &Response) -> Option<Fault> {
-    let mut blocks = before.blocks.iter().zip(&after.blocks).enumerate();
-    let in_sets = blocks.find_map(|(set, (before, after))| {
-        if set == spoiled {
+fn fault_of_group(
+    spoiled: &[bool],
+    before: &Acknowledgment,
+    after: &Acknowledgment,
+) -> Option<Fault> {
+    miscounted(spoiled.len(), before)
+        .or_else(|| miscounted(spoiled.len(), after))
+        .or_else(|| changed(spoiled, before, after))
+}
+
+fn changed(spoiled: &[bool], before: &Acknowledgment, after: &Acknowledgment) -> Option<Fault> {
+    if !spoiled.contains(&true) {
+        return (before != after).then_some(Fault::OtherGroup);
+    }
+    let mut blocks = spoiled.iter().zip(before.blocks.iter().zip(&after.blocks));
+    let in_sets = blocks.find_map(|(&spoiled, (before, after))| {
+        if spoiled {
             (before[0] != after[0]).then_some(Fault::HeaderOfSpoiledSet)
         } else {
             (before != after).then_some(Fault::OtherSet)
         }
     });
     let around_sets = first(&[
-        (before.delimiters != after.delimiters, Fault::Delimiters),
-        (before.opening != after.opening, Fault::Opening),
+        (before.opening != after.opening, Fault::OpeningOfGroup),
         (before.ak9[2] != after.ak9[2], Fault::DeclaredSets),
         (before.ak9[5..] != after.ak9[5..], Fault::GroupCodes),
-        (before.closing != after.closing, Fault::Closing),
+        (before.se[2] != after.se[2], Fault::NumberInTrailer),
     ]);
     in_sets.or(around_sets)
 }
 
 /// What does not follow from the blocks and the group's codes.
-fn miscounted(sets: usize, response: &Response) -> Option<Fault> {
-    let accepted = response.accepted();
-    let (ak901, ak904) = match &response.ak9[5..] {
+fn miscounted(sets: usize, found: &Acknowledgment) -> Option<Fault> {
+    let accepted = found.accepted();
+    let (ak901, ak904) = match &found.ak9[5..] {
         [] if accepted == sets => ("A", accepted),
         [] if accepted > 0 => ("P", accepted),
         _ => ("R", 0),
     };
     let [ak903, ak904, se01] =
-        [sets, ak904, response.segment_count()].map(|count| count.to_string().into_bytes());
+        [sets, ak904, found.segment_count()].map(|count| count.to_string().into_bytes());
     first(&[
-        (response.blocks.len() != sets, Fault::NumberOfBlocks),
-        (response.ak9[1] != ak901.as_bytes(), Fault::VerdictOnGroup),
-        (response.ak9[3] != ak903, Fault::ReceivedSets),
-        (response.ak9[4] != ak904, Fault::AcceptedSets),
-        (response.se[1] != se01, Fault::SegmentCount),
+        (found.blocks.len() != sets, Fault::NumberOfBlocks),
+        (found.ak9[1] != ak901.as_bytes(), Fault::VerdictOnGroup),
+        (found.ak9[3] != ak903, Fault::ReceivedSets),
+        (found.ak9[4] != ak904, Fault::AcceptedSets),
+        (found.se[1] != se01, Fault::SegmentCount),
     ])
 }
 

@@ -1,8 +1,10 @@
 //! Holds the proved library and its programs against the second program.
 
 mod agreement;
+mod alone;
 mod cases;
 mod damage;
+mod interchange;
 mod outcome;
 mod pair;
 mod program;

@@ -1,23 +1,17 @@
 //! Two interchanges, of which the second has other segments between header
-//! and trailer of one set.
+//! and trailer of some sets, in any groups.
 
+use crate::interchange::{groups, id, roomy, separator_and_terminator, Group, FRAME};
 use second::generator::prng::Prng;
 use second::generator::Case;
-use second::isa::{ISA_LENGTH, LONGEST_INTERCHANGE};
+use second::isa::LONGEST_INTERCHANGE;
 use std::ops::Range;
-
-/// No segment between header and trailer of a set has one of these ids.
-const FRAME: [&[u8]; 6] = [b"ISA", b"GS", b"ST", b"SE", b"GE", b"IEA"];
-
-/// A response is never longer than this many times its interchange.
-const LONGEST_RESPONSE: usize = 32;
 
 pub struct Pair {
     pub before: Case,
     pub after: Case,
-    pub sets: usize,
-    /// Which of the sets is spoiled, counted from 0.
-    pub spoiled: usize,
+    /// Of each group which of its sets are spoiled.
+    pub spoiled: Vec<Vec<bool>>,
 }
 
 impl Pair {
@@ -28,70 +22,63 @@ impl Pair {
         if before.answer().number() != 0 {
             return None;
         }
-        let insides = insides(&before.interchange);
-        if insides.len() < 2 {
+        let groups = groups(&before.interchange);
+        let sets: usize = groups.iter().map(|group| group.insides.len()).sum();
+        if sets < 2 {
             return None;
         }
         let prng = &mut Prng::for_case(!seed, index);
-        let spoiled = prng.below(insides.len());
+        let (interchange, spoiled) = spoil(prng, seed, &before.interchange, &groups);
+        let fits = interchange.len() <= LONGEST_INTERCHANGE;
         let after = roomy(Case {
-            interchange: with_other_inside(prng, seed, &before.interchange, &insides[spoiled]),
+            interchange,
             ..before.clone()
         });
-        let fits = after.interchange.len() <= LONGEST_INTERCHANGE;
         (fits && after != before).then_some(Pair {
             before,
             after,
-            sets: insides.len(),
             spoiled,
         })
     }
 }
 
-/// The case with a buffer in which any response fits.
-fn roomy(case: Case) -> Case {
-    Case {
-        buffer_length: LONGEST_RESPONSE * case.interchange.len(),
-        ..case
-    }
-}
-
-/// The bytes between header and trailer of each set. A set without a trailer
-/// ends where the next set starts, or with the group.
-fn insides(interchange: &[u8]) -> Vec<Range<usize>> {
-    let (separator, terminator) = separator_and_terminator(interchange);
-    let mut insides = Vec::new();
-    let mut open = None;
-    let mut at = ISA_LENGTH;
-    for segment in interchange[ISA_LENGTH..].split_inclusive(|&byte| byte == terminator) {
-        let end = at + segment.len();
-        let id = id(&segment[..segment.len() - 1], separator);
-        if FRAME.contains(&id) {
-            insides.extend(open.take().map(|start| start..at));
-        }
-        if id == b"ST" {
-            open = Some(end);
-        }
-        at = end;
-    }
-    insides
-}
-
-fn separator_and_terminator(interchange: &[u8]) -> (u8, u8) {
-    (interchange[3], interchange[105])
-}
-
-fn id(segment: &[u8], separator: u8) -> &[u8] {
-    let mut fields = segment.split(|&byte| byte == separator);
-    fields.next().unwrap_or_default()
-}
-
-fn with_other_inside(
+/// The interchange with other segments in one of its sets, and in some cases in
+/// others; and which sets differ by that.
+fn spoil(
     prng: &mut Prng,
     seed: u64,
     interchange: &[u8],
-    inside: &Range<usize>,
-) -> Vec<u8> {
+    groups: &[Group],
+) -> (Vec<u8>, Vec<Vec<bool>>) {
+    let sets: usize = groups.iter().map(|group| group.insides.len()).sum();
+    let one = prng.below(sets);
+    let chance_of_others = *prng.pick(&[0, 20, 60]);
+    let mut set = 0;
+    let mut copied = 0;
+    let mut after = Vec::new();
+    let mut spoil_set = |inside: &Range<usize>| {
+        let old = &interchange[inside.clone()];
+        let new = if set == one || prng.percent(chance_of_others) {
+            other_inside(prng, seed, interchange, inside)
+        } else {
+            old.to_vec()
+        };
+        after.extend(&interchange[copied..inside.start]);
+        after.extend(&new);
+        copied = inside.end;
+        set += 1;
+        new != old
+    };
+    let mut spoiled = Vec::new();
+    for group in groups {
+        spoiled.push(group.insides.iter().map(&mut spoil_set).collect());
+    }
+    after.extend(&interchange[copied..]);
+    (after, spoiled)
+}
+
+/// Other segments for one set.
+fn other_inside(prng: &mut Prng, seed: u64, interchange: &[u8], inside: &Range<usize>) -> Vec<u8> {
     let (separator, terminator) = separator_and_terminator(interchange);
     let bytes = match prng.below(4) {
         0 => Vec::new(),
@@ -99,9 +86,7 @@ fn with_other_inside(
         2 => scratched(prng, &interchange[inside.clone()]),
         _ => of_another_case(prng, seed, separator, terminator),
     };
-    let other = filling(&bytes, separator, terminator);
-    let (head, tail) = (&interchange[..inside.start], &interchange[inside.end..]);
-    [head, &other, tail].concat()
+    filling(&bytes, separator, terminator)
 }
 
 /// Of these bytes the segments that do not end a set.
@@ -147,7 +132,9 @@ fn of_another_case(prng: &mut Prng, seed: u64, separator: u8, terminator: u8) ->
         return of_another_case(prng, seed, separator, terminator);
     }
     let from = separator_and_terminator(&case.interchange);
-    let inside = prng.pick(&insides(&case.interchange)).clone();
+    let groups = groups(&case.interchange);
+    let group = prng.below(groups.len());
+    let inside = prng.pick(&groups[group].insides).clone();
     case.interchange[inside]
         .iter()
         .map(|&byte| match byte {
@@ -162,30 +149,52 @@ fn of_another_case(prng: &mut Prng, seed: u64, separator: u8, terminator: u8) ->
 mod tests {
     use super::*;
 
-    const HEAD: &str = "ISA*00*          *00*          *ZZ*CARRIERA       *ZZ*BROKERB        \
-                        *240315*0915*U*00601*000000042*0*T*>~";
-
-    #[test]
-    fn the_insides_of_sets_with_and_without_trailers() {
-        let interchange = format!("{HEAD}GS~ST*1~B1~~SE~ST*2~SE~ST*3~X*SE~ST*4~Y~GE~IEA~");
-        let found: Vec<&str> = insides(interchange.as_bytes())
-            .into_iter()
-            .map(|inside| &interchange[inside])
-            .collect();
-        assert_eq!(found, ["B1~~", "", "X*SE~", "Y~"]);
+    /// The bytes around and inside the sets of an interchange, by turns.
+    fn around_and_inside(interchange: &[u8]) -> (Vec<&[u8]>, Vec<&[u8]>) {
+        let groups = groups(interchange);
+        let insides: Vec<Range<usize>> =
+            groups.into_iter().flat_map(|group| group.insides).collect();
+        let starts = std::iter::once(0).chain(insides.iter().map(|inside| inside.end));
+        let ends = insides.iter().map(|inside| inside.start);
+        let around = starts.zip(ends.chain([interchange.len()]));
+        (
+            around
+                .map(|(start, end)| &interchange[start..end])
+                .collect(),
+            insides
+                .iter()
+                .map(|inside| &interchange[inside.clone()])
+                .collect(),
+        )
     }
 
     #[test]
-    fn a_pair_differs_inside_one_set_only() {
+    fn a_pair_differs_inside_the_spoiled_sets_only() {
         let pairs = (0..).filter_map(|index| Pair::make(990, index));
         for pair in pairs.take(300) {
-            let (before, after) = (&pair.before.interchange, &pair.after.interchange);
-            let (old, new) = (insides(before), insides(after));
-            assert_eq!((old.len(), new.len()), (pair.sets, pair.sets));
-            let (old, new) = (&old[pair.spoiled], &new[pair.spoiled]);
-            assert_eq!(before[..old.start], after[..new.start]);
-            assert_eq!(before[old.end..], after[new.end..]);
-            assert_ne!(before[old.clone()], after[new.clone()]);
+            let (around, old) = around_and_inside(&pair.before.interchange);
+            let (still_around, new) = around_and_inside(&pair.after.interchange);
+            assert_eq!(around, still_around);
+            let spoiled: Vec<bool> = old.iter().zip(&new).map(|(old, new)| old != new).collect();
+            assert_eq!(spoiled, pair.spoiled.concat());
         }
+    }
+
+    #[test]
+    fn sets_are_spoiled_in_any_groups() {
+        let pairs = (0..).filter_map(|index| Pair::make(1, index));
+        let (mut of_groups, mut in_several, mut beside, mut several_sets) = (0, 0, 0, 0);
+        for pair in pairs.take(5_000) {
+            let touched = |group: &&Vec<bool>| group.contains(&true);
+            let groups = pair.spoiled.len();
+            let touched = pair.spoiled.iter().filter(touched).count();
+            let sets = pair.spoiled.concat().into_iter().filter(|&set| set).count();
+            of_groups += u32::from(groups > 1);
+            in_several += u32::from(touched > 1);
+            beside += u32::from(touched > 0 && touched < groups);
+            several_sets += u32::from(sets > 1);
+        }
+        let seen = [of_groups, in_several, beside, several_sets];
+        assert!(seen.iter().all(|&count| count >= 500), "{seen:?}");
     }
 }

@@ -10,6 +10,7 @@ use std::collections::hash_map::{Entry, HashMap};
 
 mod calendars;
 mod echoes;
+mod groups;
 mod interchanges;
 
 /// What the gate compares: `compare cases --seed 1 --count 200000`.

@@ -1,5 +1,5 @@
-//! The acknowledgment of one X12 interchange: of its group with a 997, of its envelope with a TA1, or the number of a
-//! refusal. `include/acknowledgment.h` says all about it.
+//! The acknowledgment of one X12 interchange with up to 16 groups: of each group with a 997, of its envelope with a TA1,
+//! or the number of a refusal. `include/acknowledgment.h` says all about it.
 
 /// The type of both entries in C.
 type Entry = unsafe extern "C" fn(
@@ -65,9 +65,11 @@ impl Refusal {
     }
 }
 
-/// Answers an interchange with a 997. The response is the part of `buffer` that
-/// is given back; a refusal leaves `buffer` as it was. Where a value is wrong,
-/// its AK4 shows at most the first 99 bytes that were received.
+/// Answers an interchange with a 997 for each of its 1 to 16 groups, in their
+/// order and in one response. A group that is refused refuses the interchange.
+/// The response is the part of `buffer` that is given back; a refusal leaves
+/// `buffer` as it was. Where a value is wrong, its AK4 shows at most the first
+/// 99 bytes that were received.
 pub fn acknowledge<'a>(
     interchange: &[u8],
     buffer: &'a mut [u8],

@@ -1,4 +1,4 @@
-//! The order of the envelope's segments and the interchange control trailer
+//! The envelope: the groups that it holds and the interchange control trailer
 //! (refusals 6 to 8).
 
 use crate::isa::{Isa, ISA_LENGTH};
@@ -6,16 +6,21 @@ use crate::refusal::Refusal;
 use crate::segment::{cut_segments, Segment};
 use crate::values::decimal;
 
+/// An interchange has no more groups than these.
+pub const MOST_GROUPS: usize = 16;
+
 /// What is wrong with an envelope, in the order of checking.
 #[derive(Debug, Clone, Copy, PartialEq, Eq)]
 pub enum EnvelopeFault {
     LastByte,
+    /// Between ISA and the end stand other segments than 1 to 16 groups and
+    /// then IEA.
     Order,
     /// IEA has not exactly two elements.
     IeaElements,
     /// IEA02 differs from ISA13.
     IeaControlNumber,
-    /// IEA01 is not 1 to 5 digits of value 1.
+    /// IEA01 is not 1 to 5 digits whose value is the number of groups.
     IeaGroupCount,
 }
 
@@ -31,10 +36,18 @@ impl From<EnvelopeFault> for Refusal {
     }
 }
 
-/// The segments of an interchange whose envelope is sound.
+/// The segments from GS to GE.
+pub struct Group<'a> {
+    pub gs: Segment<'a>,
+    /// What lies between GS and GE, or between GS and IEA if GE is missing.
+    pub inside: Vec<Segment<'a>>,
+    /// Missing at most in the last group.
+    pub ge: Option<Segment<'a>>,
+}
+
+/// The groups of an interchange whose envelope is sound.
 pub struct Envelope<'a> {
-    /// From GS to IEA.
-    segments: Vec<Segment<'a>>,
+    pub groups: Vec<Group<'a>>,
 }
 
 impl<'a> Envelope<'a> {
@@ -42,64 +55,58 @@ impl<'a> Envelope<'a> {
         if interchange.last() != Some(&isa.delimiters.terminator) {
             return Err(EnvelopeFault::LastByte);
         }
-        let segments = cut_segments(&interchange[ISA_LENGTH..], &isa.delimiters);
-        if !in_envelope_order(&segments) {
+        let mut segments = cut_segments(&interchange[ISA_LENGTH..], &isa.delimiters);
+        let iea = segments.pop().filter(|last| last.id == b"IEA");
+        let (Some(groups), Some(iea)) = (cut_groups(segments), iea) else {
+            return Err(EnvelopeFault::Order);
+        };
+        if !(1..=MOST_GROUPS).contains(&groups.len()) {
             return Err(EnvelopeFault::Order);
         }
-        let envelope = Envelope { segments };
-        envelope.check_iea(isa)?;
-        Ok(envelope)
-    }
-
-    pub fn gs(&self) -> &Segment<'a> {
-        &self.segments[0]
-    }
-
-    /// The segments between GS and GE, or between GS and IEA if GE is missing.
-    pub fn group(&self) -> &[Segment<'a>] {
-        let end = match self.ge() {
-            Some(_) => self.segments.len() - 2,
-            None => self.segments.len() - 1,
-        };
-        &self.segments[1..end]
-    }
-
-    pub fn ge(&self) -> Option<&Segment<'a>> {
-        let next_to_last = &self.segments[self.segments.len() - 2];
-        (next_to_last.id == b"GE").then_some(next_to_last)
-    }
-
-    fn iea(&self) -> &Segment<'a> {
-        &self.segments[self.segments.len() - 1]
-    }
-
-    fn check_iea(&self, isa: &Isa) -> Result<(), EnvelopeFault> {
-        let iea = self.iea();
-        if iea.elements.len() != 2 {
-            return Err(EnvelopeFault::IeaElements);
-        }
-        if iea.element(2) != isa.control_number() {
-            return Err(EnvelopeFault::IeaControlNumber);
-        }
-        if decimal(iea.element(1), 5) != Some(1) {
-            return Err(EnvelopeFault::IeaGroupCount);
-        }
-        Ok(())
+        check_iea(&iea, isa, groups.len())?;
+        Ok(Envelope { groups })
     }
 }
 
-/// Whether GS is first, IEA last, and neither these nor ISA and GE stand
-/// anywhere but in their places. ISA itself has been cut off.
-fn in_envelope_order(after_isa: &[Segment]) -> bool {
-    let count = after_isa.len();
-    let in_place = |(index, segment): (usize, &Segment)| match segment.id {
-        b"ISA" => false,
-        b"GS" => index == 0,
-        b"GE" => index + 2 == count,
-        b"IEA" => index + 1 == count,
-        _ => true,
-    };
-    after_isa.first().is_some_and(|first| first.id == b"GS")
-        && after_isa.last().is_some_and(|last| last.id == b"IEA")
-        && after_isa.iter().enumerate().all(in_place)
+/// Cuts the segments between ISA and IEA into groups. Nothing where a segment
+/// lies outside every group, a group but the last has no GE, or ISA or IEA is
+/// among them.
+fn cut_groups(segments: Vec<Segment>) -> Option<Vec<Group>> {
+    let mut groups = Vec::new();
+    let mut open: Option<Group> = None;
+    for segment in segments {
+        match (segment.id, open.take()) {
+            (b"GS", None) => {
+                open = Some(Group {
+                    gs: segment,
+                    inside: Vec::new(),
+                    ge: None,
+                });
+            }
+            (b"GE", Some(group)) => groups.push(Group {
+                ge: Some(segment),
+                ..group
+            }),
+            (b"ISA" | b"GS" | b"GE" | b"IEA", _) | (_, None) => return None,
+            (_, Some(mut group)) => {
+                group.inside.push(segment);
+                open = Some(group);
+            }
+        }
+    }
+    groups.extend(open);
+    Some(groups)
+}
+
+fn check_iea(iea: &Segment, isa: &Isa, groups: usize) -> Result<(), EnvelopeFault> {
+    if iea.elements.len() != 2 {
+        return Err(EnvelopeFault::IeaElements);
+    }
+    if iea.element(2) != isa.control_number() {
+        return Err(EnvelopeFault::IeaControlNumber);
+    }
+    if decimal(iea.element(1), 5) != Some(groups as u64) {
+        return Err(EnvelopeFault::IeaGroupCount);
+    }
+    Ok(())
 }

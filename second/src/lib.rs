@@ -1,6 +1,7 @@
-//! Answers one X12 interchange holding one functional group of transaction
-//! set 990 with a functional acknowledgment (997) or a refusal number, and its
-//! envelope with an interchange acknowledgment (TA1) or a refusal number.
+//! Answers one X12 interchange holding 1 to 16 functional groups of transaction
+//! set 990 with a functional acknowledgment (997) for each group or a refusal
+//! number, and its envelope with an interchange acknowledgment (TA1) or a
+//! refusal number.
 //!
 //! Written from document 01 and the change requests alone, to be compared with
 //! the proved program.
@@ -24,7 +25,8 @@ pub mod values;
 pub mod verdicts;
 
 use caller::CallerNumbers;
-use envelope::Envelope;
+use delimiters::Delimiters;
+use envelope::{Envelope, Group};
 use group_header::GroupHeader;
 use interchange_acknowledgment::acknowledge_interchange;
 use isa::Isa;
@@ -71,7 +73,7 @@ impl Answer {
 /// (HHMM) under the caller's control number, into a buffer of so many bytes.
 pub type Entry = fn(&[u8], usize, u32, u32, u32) -> Answer;
 
-/// The entry that answers the group with a 997.
+/// The entry that answers each group with a 997.
 pub fn answer(
     interchange: &[u8],
     buffer_length: usize,
@@ -110,8 +112,22 @@ fn acknowledge(interchange: &[u8], date: u32, time: u32, control: u32) -> Result
     let caller = CallerNumbers::check(date, time, control)?;
     let isa = Isa::read(interchange)?;
     let envelope = Envelope::read(interchange, &isa)?;
-    let header = GroupHeader::read(envelope.gs(), &isa.delimiters)?;
-    let sets = TransactionSet::cut(envelope.group(), &isa.delimiters)?;
-    let verdict = GroupVerdict::reach(&header, &sets, envelope.ge(), &isa.delimiters);
-    Ok(response::write(&caller, &isa, &header, &verdict))
+    let mut verdicts = Vec::new();
+    for group in &envelope.groups {
+        verdicts.push(judge(group, &isa.delimiters)?);
+    }
+    Ok(response::write(&caller, &isa, &verdicts))
+}
+
+/// Refusals 9 to 13 are all checked on this group before the next one is
+/// looked at.
+fn judge<'a>(group: &'a Group<'a>, delimiters: &Delimiters) -> Result<GroupVerdict<'a>, Refusal> {
+    let header = GroupHeader::read(&group.gs, delimiters)?;
+    let sets = TransactionSet::cut(&group.inside, delimiters)?;
+    Ok(GroupVerdict::reach(
+        header,
+        &sets,
+        group.ge.as_ref(),
+        delimiters,
+    ))
 }

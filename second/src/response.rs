@@ -1,58 +1,51 @@
-//! Writing the response interchange with its 997.
+//! Writing the response interchange with a 997 for each group.
 
 use crate::caller::CallerNumbers;
 use crate::delimiters::Delimiters;
 use crate::element_notes::ElementNote;
-use crate::group_header::GroupHeader;
 use crate::isa::Isa;
 use crate::segment_notes::SegmentNote;
 use crate::verdicts::{Acknowledgment, GroupVerdict, SetVerdict};
 
-/// ST02 and SE02 of the one 997 we send.
-const SET_CONTROL_NUMBER: &[u8] = b"0001";
-
-pub fn write(
-    caller: &CallerNumbers,
-    isa: &Isa,
-    header: &GroupHeader,
-    verdict: &GroupVerdict,
-) -> Vec<u8> {
+/// The response to the groups of an interchange, of which there is at least one.
+pub fn write(caller: &CallerNumbers, isa: &Isa, groups: &[GroupVerdict]) -> Vec<u8> {
     let mut writer = Writer::new(isa.delimiters);
     let control = caller.control.to_string();
     let long_control = caller.long_control();
+    let first = &groups[0].header;
     writer.isa(caller, isa);
     writer.segment(&[
         b"GS",
         b"FA",
-        header.receiver,
-        header.sender,
+        first.receiver,
+        first.sender,
         caller.date.as_bytes(),
         caller.time.as_bytes(),
         control.as_bytes(),
         b"X",
         b"004010",
     ]);
-    write_functional_acknowledgment(&mut writer, header, verdict);
-    writer.segment(&[b"GE", b"1", control.as_bytes()]);
+    for (count, group) in (1..).zip(groups) {
+        write_functional_acknowledgment(&mut writer, count, group);
+    }
+    writer.segment(&[b"GE", &number(groups.len()), control.as_bytes()]);
     writer.segment(&[b"IEA", b"1", long_control.as_bytes()]);
     writer.bytes
 }
 
-/// The 997 from ST to SE.
-fn write_functional_acknowledgment(
-    writer: &mut Writer,
-    header: &GroupHeader,
-    verdict: &GroupVerdict,
-) {
+/// The 997 from ST to SE for the group that is this one when counted from 1.
+fn write_functional_acknowledgment(writer: &mut Writer, count: usize, group: &GroupVerdict) {
+    let set_control_number = format!("{count:04}").into_bytes();
     let before = writer.segments;
-    writer.segment(&[b"ST", b"997", SET_CONTROL_NUMBER]);
+    writer.segment(&[b"ST", b"997", &set_control_number]);
+    let header = &group.header;
     writer.segment(&[b"AK1", header.functional_identifier, header.control_number]);
-    for set in &verdict.sets {
+    for set in &group.sets {
         write_set(writer, set);
     }
-    write_ak9(writer, verdict);
+    write_ak9(writer, group);
     let with_trailer = writer.segments - before + 1;
-    writer.segment(&[b"SE", &number(with_trailer), SET_CONTROL_NUMBER]);
+    writer.segment(&[b"SE", &number(with_trailer), &set_control_number]);
 }
 
 /// AK2 to AK5 for one set.

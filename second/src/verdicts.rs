@@ -1,4 +1,4 @@
-//! The verdicts on the sets (AK5) and on the group (AK9).
+//! The verdicts on the sets of one group (AK5) and on the group (AK9).
 
 use crate::delimiters::Delimiters;
 use crate::group_header::GroupHeader;
@@ -50,6 +50,7 @@ pub struct SetVerdict<'a> {
 
 #[derive(Debug, Clone, PartialEq, Eq)]
 pub struct GroupVerdict<'a> {
+    pub header: GroupHeader<'a>,
     pub sets: Vec<SetVerdict<'a>>,
     pub acknowledgment: Acknowledgment,
     /// AK902: what GE01 declares.
@@ -72,14 +73,14 @@ impl SetVerdict<'_> {
 
 impl<'a> GroupVerdict<'a> {
     pub fn reach(
-        header: &GroupHeader<'a>,
+        header: GroupHeader<'a>,
         sets: &[TransactionSet<'a>],
         ge: Option<&Segment<'a>>,
         delimiters: &Delimiters,
     ) -> Self {
         let edition = edition(header.version);
         let supported_edition = edition.filter(|_| header.is_supported());
-        let errors = group_errors(header, edition, ge, sets.len());
+        let errors = group_errors(&header, edition, ge, sets.len());
         let sets = set_verdicts(sets, supported_edition, delimiters);
         let good_sets = sets.iter().filter(|set| set.errors.is_empty()).count();
         let acknowledgment = if !errors.is_empty() || good_sets == 0 {
@@ -90,6 +91,7 @@ impl<'a> GroupVerdict<'a> {
             Acknowledgment::PartiallyAccepted
         };
         GroupVerdict {
+            header,
             acknowledgment,
             sets_included: ge.and_then(declared_sets).unwrap_or(sets.len() as u64),
             sets_accepted: match acknowledgment {

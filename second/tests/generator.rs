@@ -11,7 +11,7 @@ const SEED: u64 = 990;
 #[test]
 fn every_number_and_code_occurs_often() {
     let mut coverage = Coverage::default();
-    for case in cases(SEED).take(6_000) {
+    for case in cases(SEED).take(30_000) {
         coverage.count(&case);
     }
     for outcome in all_outcomes() {
@@ -174,6 +174,241 @@ fn envelopes_are_remarkable_in_every_way() {
         let count = buffers.get(&edge).copied();
         assert!(count >= Some(20), "{edge:?}: {count:?}");
     }
+}
+
+/// The segments of a case behind ISA, each as its id and its elements. Behind
+/// the last terminator stands nothing.
+fn segments(case: &Case) -> Vec<Vec<&[u8]>> {
+    let (separator, terminator) = (case.interchange[3], case.interchange[105]);
+    let mut segments: Vec<Vec<&[u8]>> = case.interchange[106..]
+        .split(|&byte| byte == terminator)
+        .map(|segment| segment.split(|&byte| byte == separator).collect())
+        .collect();
+    segments.pop();
+    segments
+}
+
+/// The cases of one family among the first of the seed.
+fn of_family(wanted: impl Fn(Family) -> bool, first: u64) -> impl Iterator<Item = Case> {
+    (0..first)
+        .filter(move |&index| wanted(Family::of(SEED, index)))
+        .map(|index| Case::make(SEED, index))
+}
+
+/// One group of a case, as an interchange of its own.
+fn alone(case: &Case, group: &[Vec<&[u8]>]) -> Case {
+    let (separator, terminator) = (case.interchange[3], case.interchange[105]);
+    let iea = vec![b"IEA".as_slice(), b"1", &case.interchange[90..99]];
+    let mut interchange = case.interchange[..106].to_vec();
+    for segment in group.iter().chain([&iea]) {
+        interchange.extend(segment.join(&separator));
+        interchange.push(terminator);
+    }
+    Case {
+        interchange,
+        ..case.clone()
+    }
+}
+
+/// The groups of segments that end with IEA and begin with GS.
+fn groups<'a>(segments: &'a [Vec<&'a [u8]>]) -> Vec<&'a [Vec<&'a [u8]>]> {
+    let [groups @ .., _] = segments else {
+        return Vec::new();
+    };
+    groups.chunk_by(|_, next| next[0] != b"GS").collect()
+}
+
+#[test]
+fn groups_are_refused_at_every_place() {
+    let mut seen: BTreeMap<(u8, usize), u32> = BTreeMap::new();
+    let refused = |family| matches!(family, Family::RefusedGroups(9..));
+    for case in of_family(refused, 200_000) {
+        let number = case.answer().number();
+        assert_eq!(case.family, Family::RefusedGroups(number), "{case:?}");
+        let segments = segments(&case);
+        let mut numbers = groups(&segments)
+            .into_iter()
+            .map(|group| alone(&case, group).answer().number());
+        let place = numbers.position(|number| number != 0).unwrap();
+        *seen.entry((number, place)).or_default() += 1;
+    }
+    assert_eq!(seen.len(), 5 * 16, "{seen:?}");
+}
+
+/// What stands in the way of a good order, from ids without ISA.
+fn fault_of_order(ids: &[&[u8]]) -> &'static str {
+    let groups = ids.iter().filter(|&&id| id == b"GS").count();
+    let ends = |id: &[u8]| id == b"GS" || id == b"IEA";
+    let outside = ids.windows(3).find(|ids| ids[0] == b"GE" && ends(ids[2]));
+    let envelope: Vec<&[u8]> = ids
+        .iter()
+        .copied()
+        .filter(|id| matches!(*id, b"GS" | b"GE" | b"ISA" | b"IEA"))
+        .collect();
+    let has = |pair: [&[u8]; 2]| envelope.windows(2).any(|ids| ids == pair);
+    match outside {
+        _ if groups > 16 => "too many groups",
+        Some([_, b"GE", b"GS"]) => "GE twice between groups",
+        Some([_, b"GE", _]) => "GE twice at the end",
+        Some([_, b"", b"GS"]) => "an empty segment between groups",
+        Some([_, b"", _]) => "an empty segment after the last GE",
+        Some([_, b"ISA" | b"IEA", _]) => "ISA or IEA between groups",
+        Some([_, _, b"GS"]) => "a segment between groups",
+        Some(_) => "a segment after the last GE",
+        None if has([b"GS", b"GS"]) => "a missing inner GE",
+        None if has([b"GE", b"GE"]) => "a missing inner GS",
+        None => "another fault",
+    }
+}
+
+#[test]
+fn the_order_of_groups_is_spoiled_in_every_way() {
+    let mut seen: BTreeMap<_, u32> = BTreeMap::new();
+    for case in of_family(|family| family == Family::RefusedGroups(7), 200_000) {
+        assert_eq!(case.answer().number(), 7, "{case:?}");
+        let segments = segments(&case);
+        let ids: Vec<&[u8]> = segments.iter().map(|segment| segment[0]).collect();
+        *seen.entry(fault_of_order(&ids)).or_default() += 1;
+    }
+    assert_eq!(seen.len(), 11, "{seen:?}");
+    assert!(seen.values().all(|&count| count >= 20), "{seen:?}");
+}
+
+/// How IEA01 of several groups is wrong, or right.
+fn count_of_groups(iea01: &[u8], groups: usize) -> Option<&'static str> {
+    let text = std::str::from_utf8(iea01).ok()?;
+    let value: Option<usize> = text.parse().ok().filter(|_| !text.starts_with('+'));
+    match value {
+        Some(value) if value == groups && text.len() > 5 => Some("right, of six digits or more"),
+        Some(value) if value == groups && text.len() == 5 => Some("right, of five digits"),
+        Some(value) if value == groups && text.starts_with('0') => Some("right, with zeros"),
+        Some(value) if value == groups => Some("right"),
+        Some(1) => Some("one"),
+        Some(value) if value + 1 == groups => Some("one less"),
+        Some(value) if value == groups + 1 => Some("one more"),
+        Some(_) => Some("far off"),
+        None => Some("no number"),
+    }
+}
+
+#[test]
+fn groups_are_counted_in_every_way() {
+    let mut seen: BTreeMap<_, u32> = BTreeMap::new();
+    let counted = |family| matches!(family, Family::Groups | Family::RefusedGroups(8..));
+    for case in of_family(counted, 100_000) {
+        let segments = segments(&case);
+        let groups = groups(&segments).len();
+        if let [_, iea01, _] = segments[segments.len() - 1][..] {
+            if groups > 1 {
+                let entry = seen.entry(count_of_groups(iea01, groups));
+                *entry.or_default() += 1;
+            }
+        }
+    }
+    seen.remove(&None);
+    assert_eq!(seen.len(), 9, "{seen:?}");
+    assert!(seen.values().all(|&count| count >= 20), "{seen:?}");
+}
+
+#[test]
+fn faults_around_groups_have_every_note_code() {
+    let mut seen: BTreeMap<_, u32> = BTreeMap::new();
+    let refused = |family| matches!(family, Family::RefusedGroups(_));
+    for case in of_family(refused, 50_000) {
+        let Family::RefusedGroups(number) = case.family else {
+            continue;
+        };
+        let told = told_by_ta1(&case.answer_interchange());
+        let expected = ta1_of(number, number, case.interchange[100]);
+        assert!(expected.contains(&told.as_str()), "{told} {case:?}");
+        *seen.entry((number, told)).or_default() += 1;
+    }
+    // 7: 022; 8: 001, 021, 022; 9 to 13: 000; and 15 for each.
+    assert_eq!(seen.len(), 1 + 3 + 5 + 7, "{seen:?}");
+    assert!(seen.values().all(|&count| count >= 20), "{seen:?}");
+}
+
+/// What is remarkable about the groups of an interchange.
+fn remarkable_groups(segments: &[Vec<&[u8]>]) -> Vec<&'static str> {
+    let groups = groups(segments);
+    let elements = |place: usize| -> Vec<&[u8]> {
+        let headers = groups.iter().map(|group| &group[0]);
+        headers.filter_map(|gs| gs.get(place).copied()).collect()
+    };
+    let different = |values: Vec<&[u8]>| values.into_iter().collect::<BTreeSet<_>>().len();
+    let editions = elements(8)
+        .into_iter()
+        .map(|gs08| &gs08[..gs08.len().min(6)]);
+    let control_numbers = |group: &[Vec<&'_ [u8]>]| -> Vec<Vec<u8>> {
+        let headers = group.iter().filter(|segment| segment[0] == b"ST");
+        headers
+            .filter_map(|st| st.get(2).map(|st02| st02.to_vec()))
+            .collect()
+    };
+    let numbers: Vec<Vec<Vec<u8>>> = groups.iter().map(|group| control_numbers(group)).collect();
+    let again_within =
+        |numbers: &Vec<Vec<u8>>| numbers.iter().collect::<BTreeSet<_>>().len() < numbers.len();
+    let again_elsewhere = numbers
+        .windows(2)
+        .any(|pair| pair[0].iter().any(|number| pair[1].contains(number)));
+    let closed = |group: &&[Vec<&[u8]>]| group[group.len() - 1][0] == b"GE";
+    let is_supported = |gs01: &&[u8]| matches!(*gs01, b"GF" | b"SM");
+    let supported = elements(1).iter().filter(|gs01| is_supported(gs01)).count();
+    [
+        (different(elements(6)) < groups.len(), "the same GS06"),
+        (different(elements(6)) == groups.len(), "different GS06"),
+        (different(elements(2)) == 1, "the same sender"),
+        (different(elements(3)) > 1, "different receivers"),
+        (different(elements(1)) > 1, "different GS01"),
+        (supported < groups.len(), "a GS01 not supported"),
+        (
+            different(editions.clone().collect()) == 1,
+            "the same edition",
+        ),
+        (different(editions.collect()) > 1, "different editions"),
+        (numbers.iter().any(again_within), "ST02 again in its group"),
+        (again_elsewhere, "ST02 again in the next group"),
+        (!groups.iter().all(closed), "no last GE"),
+    ]
+    .into_iter()
+    .filter_map(|(applies, what)| applies.then_some(what))
+    .collect()
+}
+
+#[test]
+fn groups_are_remarkable_in_every_way() {
+    let mut seen: BTreeMap<_, u32> = BTreeMap::new();
+    let (mut cases, mut answered) = (0, 0);
+    for case in of_family(|family| family == Family::Groups, 50_000) {
+        let segments = segments(&case);
+        let groups = groups(&segments).len();
+        cases += 1;
+        answered += u32::from(case.answer().number() == 0);
+        if groups > 1 {
+            for what in remarkable_groups(&segments) {
+                *seen.entry(what).or_default() += 1;
+            }
+        }
+    }
+    assert_eq!(seen.len(), 11, "{seen:?}");
+    assert!(seen.values().all(|&count| count >= 100), "{seen:?}");
+    assert!(answered * 3 > cases * 2, "{answered} of {cases}");
+}
+
+#[test]
+fn large_groups_have_the_same_control_numbers() {
+    let (mut again, mut within, mut most) = (0, 0, 0);
+    for case in of_family(|family| family == Family::LargeGroups, 50_000) {
+        assert!(case.interchange.len() <= 65_536);
+        let segments = segments(&case);
+        let what = remarkable_groups(&segments);
+        again += u32::from(what.contains(&"ST02 again in the next group"));
+        within += u32::from(what.contains(&"ST02 again in its group"));
+        let sets = segments.iter().filter(|segment| segment[0] == b"ST");
+        most = most.max(sets.count());
+    }
+    assert!(again >= 50 && within >= 20, "{again} {within}");
+    assert!(most > 3_000, "{most}");
 }
 
 #[test]

@@ -138,9 +138,9 @@ fn check_8_looks_at_the_elements_then_at_iea02_then_at_iea01() {
 
 #[test]
 fn the_first_check_gives_the_note_code() {
-    let two_groups = with_group("GS*GF~GS*GF~");
+    let disordered = with_group("GS*GF~GS*GF~");
     assert_eq!(ta1_of(&format!("{WANTING_TA1}X")), "R*023");
-    assert_eq!(ta1_of(&two_groups[..two_groups.len() - 1]), "R*023");
+    assert_eq!(ta1_of(&disordered[..disordered.len() - 1]), "R*023");
     assert_eq!(ta1_of(&format!("{}X", with_iea("IEA*2*1~"))), "R*023");
     assert_eq!(
         ta1_of(&format!("{WANTING_TA1}{GS}{GS}IEA*2*000000043~")),

@@ -213,7 +213,6 @@ fn refusal_7_order_of_the_envelope() {
         format!("{GS}{CLEAN}ISA~GE*1*42~{IEA}"),
         format!("{GS}ST*990*0001~IEA~SE*3*0001~GE*1*42~{IEA}"),
         format!("{GS}ST*990*0001~GS~SE*3*0001~GE*1*42~{IEA}"),
-        format!("{GS}{CLEAN}GE*1*42~{GS}{CLEAN}GE*1*42~{IEA}"),
         format!("\n{GS}{CLEAN}GE*1*42~{IEA}"),
     ];
     for segments in outside {

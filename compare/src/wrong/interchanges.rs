@@ -19,6 +19,8 @@ struct Received<'a> {
     number: u8,
     /// The last segment, from its id on.
     last: Vec<Vec<u8>>,
+    /// How many GS there are.
+    groups: usize,
 }
 
 impl<'a> Received<'a> {
@@ -34,6 +36,10 @@ impl<'a> Received<'a> {
             response,
             number: roomy.answer().number(),
             last: segments[whole].clone(),
+            groups: segments
+                .iter()
+                .filter(|segment| segment[0] == b"GS")
+                .count(),
         })
     }
 
@@ -55,13 +61,13 @@ impl<'a> Received<'a> {
         &self.last[2]
     }
 
-    fn counts_one_group(&self) -> bool {
-        decimal(self.iea01(), 5) == Some(1)
+    fn counts(&self, groups: usize) -> bool {
+        decimal(self.iea01(), 5) == Some(groups as u64)
     }
 
     /// The note code once IEA02 is taken for ISA13.
     fn note_after_iea02(&self) -> &'static str {
-        if self.counts_one_group() {
+        if self.counts(self.groups) {
             "000"
         } else {
             "021"
@@ -162,10 +168,17 @@ fn shows(wrong: impl Fn(&Case) -> Option<Outcome>) {
 
 /// A program shows that has another note code for some interchanges.
 fn note_shows(mistaken: impl Fn(&Received) -> Option<&'static str>) {
-    shows(|case| {
-        let received = Received::read(case)?;
-        Some(received.telling(mistaken(&received)?))
-    });
+    note_shows_in(Family::Envelopes, mistaken);
+}
+
+fn note_shows_in(family: Family, mistaken: impl Fn(&Received) -> Option<&'static str>) {
+    let differs = |case: &Case| {
+        Received::read(case).is_some_and(|received| {
+            let mistaken = mistaken(&received).map(|note| received.telling(note));
+            mistaken.is_some_and(|wrong| wrong != right(case))
+        })
+    };
+    assert_eq!(shown(family, differs), SEVERAL);
 }
 
 /// A program shows that writes other segments.
@@ -195,9 +208,7 @@ fn the_right_answers_never_show() {
 
 #[test]
 fn iea01_looked_at_before_iea02_shows() {
-    note_shows(|received| {
-        (received.note() == "001" && !received.counts_one_group()).then_some("021")
-    });
+    note_shows(|received| (received.note() == "001" && !received.counts(1)).then_some("021"));
 }
 
 #[test]
@@ -325,6 +336,63 @@ fn check_6_made_after_8_shows() {
             .into_iter()
             .find(|&note| note == seen.note())
     });
+}
+
+#[test]
+fn another_limit_of_groups_shows() {
+    for most in [1, 15] {
+        note_shows_in(Family::Groups, |received| {
+            (received.groups > most).then_some("022")
+        });
+    }
+    note_shows_in(Family::RefusedGroups(7), |received| {
+        (received.groups > 16).then_some("000")
+    });
+}
+
+#[test]
+fn iea01_compared_with_one_for_several_groups_shows() {
+    let after_iea02 = |received: &Received| match received.note() {
+        "000" | "021" if received.counts(1) => Some("000"),
+        "000" | "021" => Some("021"),
+        _ => None,
+    };
+    for family in [Family::Groups, Family::RefusedGroups(8)] {
+        note_shows_in(family, after_iea02);
+    }
+}
+
+#[test]
+fn iea01_wrong_by_one_let_pass_shows() {
+    for (more, less) in [(1, 0), (0, 1)] {
+        note_shows_in(Family::RefusedGroups(8), |received| {
+            let near = received.note() == "021" && received.counts(received.groups + more - less);
+            near.then_some("000")
+        });
+    }
+}
+
+#[test]
+fn iea01_of_six_digits_for_several_groups_shows() {
+    note_shows_in(Family::RefusedGroups(8), |received| {
+        let long =
+            received.note() == "021" && value(received.iea01()) == Some(received.groups as u64);
+        long.then_some("000")
+    });
+}
+
+#[test]
+fn a_fault_around_several_groups_let_pass_shows() {
+    note_shows_in(Family::RefusedGroups(7), |received| {
+        (received.number == 7).then_some("000")
+    });
+}
+
+#[test]
+fn later_groups_that_are_refused_as_faults_of_the_envelope_show() {
+    for number in 9..=13 {
+        note_shows_in(Family::RefusedGroups(number), |_| Some("022"));
+    }
 }
 
 #[test]

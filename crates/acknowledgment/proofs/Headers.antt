@@ -24,7 +24,7 @@ use Rattle.register.proofs.Fields.{piece-field}
 use Rattle.acknowledgment.specs.Surveys.{headerAt, Headed}
 
 -- 1. Parts of parts.
-drop-take : (j n : ℕ) (xs : Bytes) → drop j (take n xs) ≡ take (n - j) (drop j xs)
+pub drop-take : (j n : ℕ) (xs : Bytes) → drop j (take n xs) ≡ take (n - j) (drop j xs)
 drop-take zero n xs = rw sub-zero
 drop-take (suc j) zero xs = let z : 0 - suc j ≡ 0 = omega arith in rw z
 drop-take (suc j) (suc n) [] = rw take-nil

@@ -1,8 +1,10 @@
-pub mod Blocks
-pub mod Reports
-pub mod Turns
-pub mod Surveys
-pub mod Responses
-pub mod Answering
 pub mod Headers
 pub mod Looks
+pub mod Reports
+pub mod Blocks
+pub mod Turns
+pub mod Surveys
+pub mod Transactions
+pub mod Recorded
+pub mod Passes
+pub mod Answering

@@ -1,3 +1,4 @@
 pub mod Writers
 pub mod Received
 pub mod Surveys
+pub mod Entries

@@ -1,5 +1,5 @@
 -- What one look at the sets of a group tells: where each starts, and by its mark whether it is accepted and whether its control number was used before.
-use Prim.Native.Nat.{ℕ, _+_, _-_, _<_, _≤_}
+use Prim.Native.Nat.{ℕ, suc, _+_, _-_, _<_, _≤_}
 use mathlib.Core.Path.{_≡_}
 use mathlib.Core.Bool.{Bool, true, false, _&&_, _||_}
 use mathlib.Core.List.{List, [], _∷_}
@@ -24,7 +24,8 @@ use Rattle.sets.specs.declared.SetAt.{SetAt}
 use Rattle.sets.proofs.Sets.{SetIs, setIn}
 use Rattle.sets.proofs.Refused.{Passed}
 use Rattle.register.specs.Trees.{slotOf}
-use Rattle.register.proofs.Entered.{Entered}
+use Rattle.register.proofs.Entered.{Linked, Entered}
+use Rattle.verdicts.specs.declared.Tally.{Tally}
 use Rattle.acknowledgment.specs.declared.set_block.SeenSet.{SeenSet}
 use Rattle.acknowledgment.specs.declared.survey.Survey.{Survey}
 use Rattle.acknowledgment.specs.declared.survey.SurveyedSet.{SurveyedSet}
@@ -32,18 +33,18 @@ use Rattle.acknowledgment.specs.Writers.{Measures}
 use Rattle.acknowledgment.specs.Received.{Scoped, Ordered}
 
 -- 1. A set is entered among those before it.
--- There is room for set k, which starts at a place.
-pub record Room (starts links : List ℕ) (k at : ℕ) : Type 0 where
+-- There is room for set k of a group, which starts at a place; first is the number of the group's first entry.
+pub record Room (first : ℕ) (starts links : List ℕ) (k at : ℕ) : Type 0 where
   pub start : k < length starts
-  pub link : slotOf k 0 ≤ length links
-  pub number : k < 65535
+  pub link : slotOf (first + k) 0 ≤ length links
+  pub number : first + k < 65535
   pub place : at < 65536
 
 -- Set k, which starts at a place, was entered after those that start at these places; r tells whether its ST02 is one of theirs.
-pub record EnteredNext (d : Delimiters) (body : Bytes) (starts : List ℕ) (k at : ℕ) (r : Bool) (starts′ links : List ℕ) : Type 0 where
+pub record EnteredNext (d : Delimiters) (body : Bytes) (first : ℕ) (starts : List ℕ) (k at : ℕ) (r : Bool) (starts′ links : List ℕ) : Type 0 where
   pub repeated : r ≡ member (controlAt d body at) (controlsAt d body (take k starts))
   pub stored : starts′ ≡ set starts k at
-  pub entered : Entered d body starts′ links (k + 1)
+  pub entered : Entered d body first starts′ links (k + 1)
 
 -- 2. The set at a place, and its report after sets with these ST02.
 abbrev pub setHere : Delimiters → Bytes → ℕ → Set
@@ -134,14 +135,24 @@ pub record Seen (d : Delimiters) (table : Set → Option Table) (body : Bytes) (
   pub rest : drop k (reports d table body) ≡ remaining d table body before at
   pub marked : Marked d table body at (controlsAt d body before) mark
 
+-- The entries of a group are those of its n sets.
+pub record Looked (d : Delimiters) (table : Set → Option Table) (body : Bytes) (starts marks : List ℕ) (n : ℕ) : Type 0 where
+  pub received : n ≡ length (reports d table body)
+  pub stored : n ≤ length starts
+  pub marked : n ≤ length marks
+  pub seen : (k : ℕ) → k < n → Seen d table body (take k starts) k (getD starts k 0) (getD marks k 0)
+
+-- how many marks say that their set is accepted
+unfoldable pub acceptances : List ℕ → ℕ
+acceptances [] = 0
+acceptances (m ∷ ms) = let r = acceptances ms in if eqb m 0 then suc r else r
+
 -- All sets of a group were looked at.
 pub record Surveyed (d : Delimiters) (table : Set → Option Table) (body : Bytes) (starts marks : List ℕ) (r : Survey) : Type 0 where
-  pub received : r .sets .received ≡ length (reports d table body)
+  pub looked : Looked d table body starts marks (r .sets .received)
   pub allowed : r .sets .accepted ≡ acceptedIn (reports d table body)
+  pub counted : r .sets .accepted ≡ acceptances (take (r .sets .received) marks)
   pub measured : Measures d (blocks (reports d table body)) (r .blocks)
-  pub stored : r .sets .received ≤ length starts
-  pub marked : r .sets .received ≤ length marks
-  pub seen : (k : ℕ) → k < r .sets .received → Seen d table body (take k starts) k (getD starts k 0) (getD marks k 0)
 
 -- The sets of a group can be looked at.
 pub record Open (d : Delimiters) (body : Bytes) (valid : List Bool) (rows : Guide) (scope : Scope) : Type 0 where
@@ -151,9 +162,21 @@ pub record Open (d : Delimiters) (body : Bytes) (valid : List Bool) (rows : Guid
   pub short : length body ≤ 65536
   pub tables : Scoped rows scope
 
--- No set is entered in the links, and there is room for every set.
-pub record Cleared (d : Delimiters) (body : Bytes) (starts marks links : List ℕ) : Type 0 where
-  pub none : (s : ℕ) → getD links s 0 ≡ 0
-  pub places : length (setsOf (segments d body)) ≤ length starts
-  pub marked : length (setsOf (segments d body)) ≤ length marks
-  pub linked : slotOf (length (setsOf (segments d body))) 0 ≤ length links
+-- No set of the group is entered in the links, and there is room for every set and for one entry more; first is the number of the group's first entry.
+pub record Cleared (d : Delimiters) (body : Bytes) (first : ℕ) (starts marks links : List ℕ) : Type 0 where
+  pub none : Linked links first
+  pub places : length (setsOf (segments d body)) < length starts
+  pub marked : length (setsOf (segments d body)) < length marks
+  pub linked : slotOf (first + length (setsOf (segments d body))) 0 ≤ length links
+  pub few : first + length (setsOf (segments d body)) < 65535
+
+-- 6. The end of a group's entries.
+-- r sets with a of them accepted, and those whose marks follow, up to the mark that ends their group
+unfoldable pub tallyFrom : ℕ → ℕ → List ℕ → Tally
+tallyFrom r a [] = record { received = r; accepted = a }
+tallyFrom r a (m ∷ ms) =
+    let on = tallyFrom (r + 1) (if eqb m 0 then a + 1 else a) ms in
+    if eqb m 5 then record { received = r; accepted = a } else on
+
+abbrev pub tallyOf : List ℕ → Tally
+tallyOf = tallyFrom 0 0

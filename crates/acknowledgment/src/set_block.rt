@@ -42,6 +42,9 @@ pub const QUIET_REJECTED: u8 = 3;
 
 pub const QUIET_REPEATED: u8 = 4;
 
+// After the marks of a group's sets.
+pub const GROUP_END: u8 = 5;
+
 // The bytes of AK2 and AK5 of an accepted set beside its ST02: ST01 has three.
 const ACCEPTANCE: usize = 15;
 

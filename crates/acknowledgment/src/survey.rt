@@ -1,7 +1,9 @@
-// One look at the sets of a group: where each starts, its mark, and what its block comes to.
+// One look at the sets of a group: where each starts, its mark, and what its block comes to. Each set has an entry, a place in `starts` and `marks`;
+// entries are numbered through the groups of an interchange, and `starts` and `marks` are lent from the group's first entry on.
 ghost use mathlib.Core.Path.{_≡_};
 ghost use Rattle.sets.specs.Places.{controlAt};
-ghost use Rattle.register.proofs.Entered.{Entered};
+ghost use Prim.Native.Nat.{_+_};
+ghost use Rattle.register.proofs.Entered.{Linked, Entered};
 ghost use Rattle.acknowledgment.specs.Received.{Ordered, tableBy};
 ghost use Rattle.acknowledgment.specs.Surveys.{Room, EnteredNext, markBy, Sighted, SurveyedIs, Surveyed, Open, Cleared};
 use crate::set_block;
@@ -17,18 +19,19 @@ use register::Found;
 use rules::Delimiters;
 use verdicts::Tally;
 
-// As many sets as the longest interchange can have: each takes twelve bytes at least.
-pub const MOST_SETS: usize = rules::Interchange::LONGEST / 12;
+// As many entries as the longest interchange can have: each set takes twelve bytes at least, and each group has one more.
+pub const MOST_ENTRIES: usize = rules::Interchange::LONGEST / 12
+    + rules::Interchange::MOST_GROUPS as usize;
 
-// The links of the buckets, and four for each set.
-pub const MOST_LINKS: usize = register::BUCKETS + 4 * MOST_SETS;
+// The links of the buckets, and four for each entry.
+pub const MOST_LINKS: usize = register::BUCKETS + 4 * MOST_ENTRIES;
 
-// A group of so many bytes at most has few sets, and less is cleared for them.
+// An interchange of so many bytes at most has few sets, and less is cleared for them.
 pub const SHORT: usize = 4096;
 
-pub const FEW_SETS: usize = SHORT / 12;
+pub const FEW_ENTRIES: usize = SHORT / 12 + rules::Interchange::MOST_GROUPS as usize;
 
-pub const FEW_LINKS: usize = register::BUCKETS + 4 * FEW_SETS;
+pub const FEW_LINKS: usize = register::BUCKETS + 4 * FEW_ENTRIES;
 
 // How many sets there are, and what the blocks of all come to.
 pub struct Survey {
@@ -36,24 +39,25 @@ pub struct Survey {
     pub blocks: Told,
 }
 
-// Whether a set before the one that starts at `at`, which is set k, has its ST02. The set is entered for those after it.
+// Whether a set before the one that starts at `at`, which is set k of the group, has its ST02. The set is entered for those after it.
 fn enter(
     body: &[u8],
     d: Delimiters,
+    first: usize,
     starts: &mut [u16],
     links: &mut [u16],
     k: usize,
     at: usize,
     control: &[u8],
 ) -> bool
-    requires { ⌜ (Entered d (now body) (now starts) (now links) k) × ((Room (now starts) (now links) k at) × (now control ≡ controlAt d (now body) at)) ⌝ }
-    ensures { λ r. ⌜ EnteredNext d (now (body .entry)) (now (starts .entry)) k at r (now (starts .exit)) (now (links .exit)) ⌝ }
+    requires { ⌜ (Entered d (now body) first (now starts) (now links) k) × ((Room first (now starts) (now links) k at) × (now control ≡ controlAt d (now body) at)) ⌝ }
+    ensures { λ r. ⌜ EnteredNext d (now (body .entry)) first (now (starts .entry)) k at r (now (starts .exit)) (now (links .exit)) ⌝ }
 {
     starts[k] = at as u16;
-    match register::search(body, d, starts, links, control) {
+    match register::search(body, d, first, starts, links, control) {
         Found::Repeated => true,
         Found::Free(slot) => {
-            links[slot] = (k + 1) as u16;
+            links[slot] = (first + k + 1) as u16;
             false
         }
     }
@@ -111,19 +115,20 @@ fn survey_set(
     }
 }
 
-// One look at each set of a group; there is room for them, and none is entered yet.
+// One look at each set of a group, whose first entry has this number; there is room for them, and none is entered yet.
 pub(crate) fn survey_sets(
     body: &[u8],
     reading: Reading,
     valid: &[bool; 256],
     directory: &[[u8; 3]],
     rows: &[[u16; 6]],
+    first: usize,
     starts: &mut [u16],
     marks: &mut [u8],
     links: &mut [u16],
 ) -> Survey
-    requires { ⌜ (Open (reading .delimiters) (now body) (now valid) (now rows) (reading .scope)) × ((Ordered (now directory) (now rows) (reading .scope)) × Cleared (reading .delimiters) (now body) (now starts) (now marks) (now links)) ⌝ }
-    ensures { λ r. ⌜ Surveyed (reading .delimiters) (tableBy (now (directory .entry)) (now (rows .entry)) (reading .scope)) (now (body .entry)) (now (starts .exit)) (now (marks .exit)) r ⌝ }
+    requires { ⌜ (Open (reading .delimiters) (now body) (now valid) (now rows) (reading .scope)) × ((Ordered (now directory) (now rows) (reading .scope)) × Cleared (reading .delimiters) (now body) first (now starts) (now marks) (now links)) ⌝ }
+    ensures { λ r. ⌜ (Surveyed (reading .delimiters) (tableBy (now (directory .entry)) (now (rows .entry)) (reading .scope)) (now (body .entry)) (now (starts .exit)) (now (marks .exit)) r) × Linked (now (links .exit)) (first + r .sets .received) ⌝ }
 {
     let d = reading.delimiters;
     let mut received = 0;
@@ -133,7 +138,7 @@ pub(crate) fn survey_sets(
     let mut at = 0;
     while at < body.len() {
         let control = set_block::control_of(body, d, at);
-        let repeated = enter(body, d, starts, links, received, at, control);
+        let repeated = enter(body, d, first, starts, links, received, at, control);
         let set = survey_set(body, reading, valid, directory, rows, at, control, repeated);
         marks[received] = set.mark;
         length = writing::joined(length, set.block.length);

@@ -4,7 +4,7 @@ ghost use mathlib.Core.List.{[], _∷_, _++_, map};
 ghost use Prim.Native.Nat.{_≤_};
 ghost use lib.ListN.{length};
 ghost use Rattle.rules.specs.Base.{ascii, null, if_then_else_};
-ghost use Rattle.rules.specs.Numbers.{decimal};
+ghost use Rattle.rules.specs.Numbers.{decimal, padded};
 ghost use Rattle.rules.specs.Cutting.{field, split};
 ghost use Rattle.rules.specs.Response.{fieldsOut, segmentOut, stOut, seOut};
 ghost use Rattle.verdicts.specs.Collecting.{codesOf};
@@ -14,11 +14,17 @@ use rules::Delimiters;
 use verdicts::Codes;
 use verdicts::Summary;
 
-// ST of a 997.
-pub fn add_st(out: &mut [u8], n: usize, d: Delimiters, st02: &[u8]) -> usize
-    ensures { λ r. ⌜ From n (segmentOut d (stOut (now (st02 .entry)))) r (now (out .entry)) (now (out .exit)) ⌝ }
+// How many digits ST02 and SE02 of a 997 have.
+const ST02_DIGITS: usize = 4;
+
+// ST of the 997 with this number.
+pub fn add_st(out: &mut [u8], n: usize, d: Delimiters, number: u64) -> usize
+    ensures { λ r. ⌜ From n (segmentOut d (stOut (padded 4 number))) r (now (out .entry)) (now (out .exit)) ⌝ }
 {
-    writing::add_pair(out, n, d, &rules::ST, b"997", st02)
+    let n = writing::add_bytes(out, n, &rules::ST);
+    let n = writing::add_field(out, n, d, b"997");
+    let n = writing::add_fixed(out, n, d, number, ST02_DIGITS);
+    writing::add_byte(out, n, d.terminator)
 }
 
 // AK1: GS01 and GS06 as received.
@@ -110,12 +116,12 @@ pub fn add_ak9(out: &mut [u8], n: usize, d: Delimiters, group: Summary) -> usize
     writing::add_byte(out, n, d.terminator)
 }
 
-// SE with a count of segments.
-pub fn add_se(out: &mut [u8], n: usize, d: Delimiters, count: usize, st02: &[u8]) -> usize
-    ensures { λ r. ⌜ From n (segmentOut d (seOut count (now (st02 .entry)))) r (now (out .entry)) (now (out .exit)) ⌝ }
+// SE of the 997 with this number, with a count of segments.
+pub fn add_se(out: &mut [u8], n: usize, d: Delimiters, count: usize, number: u64) -> usize
+    ensures { λ r. ⌜ From n (segmentOut d (seOut count (padded 4 number))) r (now (out .entry)) (now (out .exit)) ⌝ }
 {
     let n = writing::add_bytes(out, n, &rules::SE);
     let n = writing::add_count(out, n, d, count as u64);
-    let n = writing::add_field(out, n, d, st02);
+    let n = writing::add_fixed(out, n, d, number, ST02_DIGITS);
     writing::add_byte(out, n, d.terminator)
 }

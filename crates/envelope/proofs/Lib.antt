@@ -1,3 +1,3 @@
 pub mod Places
-pub mod Closing
+pub mod Steps
 pub mod Laws

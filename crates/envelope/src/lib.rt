@@ -1,11 +1,12 @@
-// The envelope of an interchange: where GS, the body of the group, GE and IEA lie (refusal 7), and whether IEA is right (refusal 8).
+// The envelope of an interchange: where its groups and IEA lie (refusal 7), and whether IEA is right (refusal 8).
 ghost use mathlib.Core.Path.{_≡_};
 ghost use Prim.Native.Nat.{_+_};
 ghost use lib.ListN.{drop};
 ghost use Rattle.rules.specs.Cutting.{field, isNamed, pieces, split};
 ghost use Rattle.rules.specs.Refusals as law;
 ghost use Rattle.text.specs.Text.{part};
-ghost use Rattle.envelope.specs.Places.{isEnvelopeName, untilEnvelope, trailerAt, envelopeOf};
+ghost use Rattle.envelope.specs.Places.{endOf, isEnvelopeName, untilEnvelope, trailerAt, startAfter, groupEnding, nextGroup, groupAfter, groupsEnd, envelopeEnding, envelopeOf};
+ghost use Rattle.envelope.specs.declared.NextGroup.the-variants.{Found};
 ghost use Rattle.envelope.specs.Faults.{trailerFault};
 use rules::Delimiters;
 use rules::GE;
@@ -17,7 +18,7 @@ use rules::ISA;
 const IEA01_DIGITS: usize = 5;
 
 // The place of a group, as offsets: each part starts at one and ends before the other.
-// The body holds the terminator of its last segment; where GE is missing, its part is empty.
+// The body holds the terminator of its last segment; where GE is missing, its part is empty. The next group, or IEA, is due at `next`.
 pub struct GroupAt {
     pub gs: usize,
     pub gs_end: usize,
@@ -26,11 +27,19 @@ pub struct GroupAt {
     pub ge: usize,
     pub ge_end: usize,
     pub closed: bool,
+    pub next: usize,
 }
 
-// The places of an interchange's group and of its IEA.
+// What stands where a group is due.
+pub enum NextGroup {
+    Found(GroupAt),
+    None,
+}
+
+// The place of an interchange's first group, the number of its groups, and the place of its IEA.
 pub struct Envelope {
-    pub group: GroupAt,
+    pub first: GroupAt,
+    pub groups: u64,
     pub iea: usize,
     pub iea_end: usize,
 }
@@ -49,24 +58,23 @@ pub enum TrailerFault {
     OtherCount,
 }
 
-// What stands where the body ends: GE up to `end`, or nothing. `next` is where IEA is due.
+// What stands where the body ends: GE up to `end`, or nothing. `next` is where the next group, or IEA, is due.
 struct Trailer {
     end: usize,
     closed: bool,
     next: usize,
 }
 
+// The groups end: so many, and IEA is due there. Or there are more than may be.
+enum GroupsEnd {
+    At(u64, usize),
+    TooMany,
+}
+
 // The segment is ISA, GS, GE or IEA.
-fn is_of_envelope(s: &[u8], e: u8) -> bool
+pub fn is_of_envelope(s: &[u8], e: u8) -> bool
     ensures { λ r. ⌜ r ≡ isEnvelopeName (field (split e (now (s .entry))) 0) ⌝ }
 {
-    if s.len() == 0 {
-        return false;
-    }
-    // Most segments are told apart by their first byte.
-    if (s[0] != ISA[0]) & (s[0] != GS[0]) {
-        return false;
-    }
     if segments::is_named(s, e, &ISA) {
         return true;
     }
@@ -79,6 +87,19 @@ fn is_of_envelope(s: &[u8], e: u8) -> bool
     segments::is_named(s, e, &IEA)
 }
 
+// The segment ends the body of a group: the same test, where most segments are told apart by their first byte.
+fn ends_body(s: &[u8], e: u8) -> bool
+    ensures { λ r. ⌜ r ≡ isEnvelopeName (field (split e (now (s .entry))) 0) ⌝ }
+{
+    if s.len() == 0 {
+        return false;
+    }
+    if (s[0] != ISA[0]) & (s[0] != GS[0]) {
+        return false;
+    }
+    is_of_envelope(s, e)
+}
+
 // Where the first segment of the envelope from `from` on starts; past the end where there is none.
 fn envelope_from(i: &[u8], from: usize, d: Delimiters) -> usize
     ensures { λ r. ⌜ r ≡ from + untilEnvelope (d .element) (pieces (d .terminator) (drop from (now (i .entry)))) ⌝ }
@@ -86,7 +107,7 @@ fn envelope_from(i: &[u8], from: usize, d: Delimiters) -> usize
     let mut at = from;
     while at < i.len() {
         let end = text::find(i, at, d.terminator);
-        if is_of_envelope(&i[at..end], d.element) {
+        if ends_body(&i[at..end], d.element) {
             return at;
         }
         at = end + 1;
@@ -120,19 +141,86 @@ fn trailer_at(i: &[u8], at: usize, d: Delimiters) -> Trailer
     }
 }
 
-// The places of the parts: GS second, IEA last, GE or nothing before it, and no other segment of the envelope after GS.
-pub fn envelope_of(i: &[u8], d: Delimiters) -> Enveloped
-    ensures { λ r. ⌜ r ≡ envelopeOf d (now (i .entry)) ⌝ }
+// Where the segment after the one from `at` to `end` starts; `at` where that is past the end.
+fn start_after(i: &[u8], at: usize, end: usize, d: Delimiters) -> usize
+    requires { ⌜ end ≡ endOf d (now i) at ⌝ }
+    ensures { λ r. ⌜ r ≡ startAfter d (now (i .entry)) at ⌝ }
 {
-    let gs = text::find(i, 0, d.terminator) + 1;
-    let gs_end = text::find(i, gs, d.terminator);
-    if !is_named_at(i, gs, gs_end, d, &GS) {
-        return Enveloped::Broken;
+    if at < i.len() {
+        return end + 1;
     }
-    let body = gs_end + 1;
-    let ge = envelope_from(i, body, d);
-    let trailer = trailer_at(i, ge, d);
-    let iea = trailer.next;
+    at
+}
+
+// The group whose GS starts at `at` and whose body ends at `body_end`. The body is not searched.
+pub fn group_ending(i: &[u8], d: Delimiters, at: usize, body_end: usize) -> GroupAt
+    ensures { λ r. ⌜ r ≡ groupEnding d (now (i .entry)) at «body_end» ⌝ }
+{
+    let gs_end = text::find(i, at, d.terminator);
+    let body = start_after(i, at, gs_end, d);
+    let trailer = trailer_at(i, body_end, d);
+    GroupAt {
+        gs: at,
+        gs_end,
+        body,
+        body_end,
+        ge: body_end,
+        ge_end: trailer.end,
+        closed: trailer.closed,
+        next: trailer.next,
+    }
+}
+
+// The group that starts at `at`: GS, the body up to the first segment of the envelope, and GE or nothing.
+pub fn next_group(i: &[u8], d: Delimiters, at: usize) -> NextGroup
+    ensures { λ r. ⌜ r ≡ nextGroup d (now (i .entry)) at ⌝ }
+{
+    let gs_end = text::find(i, at, d.terminator);
+    if !is_named_at(i, at, gs_end, d, &GS) {
+        return NextGroup::None;
+    }
+    let body_end = envelope_from(i, gs_end + 1, d);
+    NextGroup::Found(group_ending(i, d, at, body_end))
+}
+
+// The group after another. No group follows one without GE.
+fn group_after(i: &[u8], d: Delimiters, group: GroupAt) -> NextGroup
+    ensures { λ r. ⌜ r ≡ groupAfter d (now (i .entry)) group ⌝ }
+{
+    if group.closed {
+        return next_group(i, d, group.next);
+    }
+    NextGroup::None
+}
+
+// Where the groups from the first on end, if they are at most `limit`.
+fn groups_end(i: &[u8], d: Delimiters, first: GroupAt, limit: u64) -> GroupsEnd
+    ensures { λ r. ⌜ r ≡ groupsEnd limit d (now (i .entry)) 0 (first .gs) (Found first) ⌝ }
+{
+    let mut groups = 0;
+    let mut at = first.gs;
+    let mut step = NextGroup::Found(first);
+    loop {
+        match step {
+            NextGroup::Found(group) => {
+                if groups == limit {
+                    return GroupsEnd::TooMany;
+                }
+                groups += 1;
+                at = group.next;
+                step = group_after(i, d, group);
+            }
+            NextGroup::None => {
+                return GroupsEnd::At(groups, at);
+            }
+        }
+    }
+}
+
+// The envelope with these groups, where IEA stands at `iea` and nothing follows it.
+fn envelope_ending(i: &[u8], d: Delimiters, first: GroupAt, groups: u64, iea: usize) -> Enveloped
+    ensures { λ r. ⌜ r ≡ envelopeEnding d (now (i .entry)) first groups iea ⌝ }
+{
     let iea_end = text::find(i, iea, d.terminator);
     if !is_named_at(i, iea, iea_end, d, &IEA) {
         return Enveloped::Broken;
@@ -140,20 +228,26 @@ pub fn envelope_of(i: &[u8], d: Delimiters) -> Enveloped
     if iea_end + 1 < i.len() {
         return Enveloped::Broken;
     }
-    let group = GroupAt {
-        gs,
-        gs_end,
-        body,
-        body_end: ge,
-        ge,
-        ge_end: trailer.end,
-        closed: trailer.closed,
-    };
     Enveloped::Whole(Envelope {
-        group,
+        first,
+        groups,
         iea,
         iea_end,
     })
+}
+
+// The places of the parts: 1 to `limit` groups from the second segment on, one after the other, and IEA last.
+pub fn envelope_of(i: &[u8], d: Delimiters, limit: u64) -> Enveloped
+    ensures { λ r. ⌜ r ≡ envelopeOf limit d (now (i .entry)) ⌝ }
+{
+    let start = text::find(i, 0, d.terminator) + 1;
+    match next_group(i, d, start) {
+        NextGroup::Found(first) => match groups_end(i, d, first, limit) {
+            GroupsEnd::At(groups, iea) => envelope_ending(i, d, first, groups, iea),
+            GroupsEnd::TooMany => Enveloped::Broken,
+        },
+        NextGroup::None => Enveloped::Broken,
+    }
 }
 
 // IEA has exactly two elements.

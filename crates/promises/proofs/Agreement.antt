@@ -98,7 +98,7 @@ module _ (i lent : Bytes) (call : Call) (o : Outcome) (p : o ≡ called (interch
 pub asks-nothing : (κs : _) (a : _) → acknowledge-interchange.Pre κs a
 asks-nothing κs a = tt
 
-calls : (κs : _) (a : _) (r : _) (s : _) → acknowledge-interchange.Post κs a r s
+pub calls : (κs : _) (a : _) (r : _) (s : _) → acknowledge-interchange.Post κs a r s
     → outcome r (now (s .1 .0)) ≡ called (interchangeAcknowledgment (now (a .0)) (a .1 .1 .0)) (now (a .1 .0))
 calls κs a r s p = allowed-outcome (interchangeAcknowledgment (now (a .0)) (a .1 .1 .0)) (now (a .1 .0)) r p
 
@@ -132,7 +132,7 @@ pub record Agreed (i lent′ : Bytes) (call call′ : Call) (o o′ : Outcome) :
   -- where TA1 says A, no 997 is refused with 6, 7 or 8, whatever its numbers: shut out is A for an envelope that the 997 refuses
   pub spared : o′ .number ≡ 0 → verdictIn (o′ .buffer) .ta104 ≡ ascii "A" → OfVerdict (o .number) → ⊥
   -- where TA1 says R, the 997 of good numbers is refused with 6, 7 or 8, and the note code tells of the test that fails: shut out is R for
-  -- what lies inside the group, and a note code of another test
+  -- what lies inside a group, and a note code of another test
   pub told : goodCall call ≡ true → o′ .number ≡ 0 → verdictIn (o′ .buffer) .ta104 ≡ ascii "R"
       → OfVerdict (o .number) × StandsFor i (o .number) (verdictIn (o′ .buffer))
   -- a TA1 is written under good numbers only, so that these are good for the 997 too: shut out is one under a bad date

@@ -1,11 +1,10 @@
--- Where an interchange is answered, the caller's date, GS04, and every B103 of an accepted set that is not empty are days of the calendar. `Faces`
+-- Where an interchange is answered, the caller's date, each GS04, and every B103 of an accepted set that is not empty are days of the calendar. `Faces`
 -- carries it to both faces.
 use mathlib.Core.Path.{_≡_, refl, sym, ap, _∙_}
 use mathlib.Core.Bool.{Bool, true, false, _&&_, not, true≢false}
 use mathlib.Core.List.{List, [], _∷_, _++_, map, append-eq-nil-iff, cons-ne-nil}
 use mathlib.Core.Option.{some}
 use Prim.Native.Nat.{ℕ, zero, suc, _+_, _/_, _%_, _<_}
-use borrow.Author.Tests.{not-false}
 use lib.Dec.{leb, ltb, eqb}
 use lib.ListN.{length, getD}
 use Rattle.rules.specs.Base.{Bytes, ascii, null, any, same, between, first, every, _⇒_, listed, isNone, if_then_else_}
@@ -15,18 +14,19 @@ use Rattle.rules.specs.Tables.{Row, Syntax, Table, row, O, directory, b1Rows, t
 use Rattle.rules.specs.Elements.{spelled, elementCode, lacks, shutsOut, placeCodes, Finding, found, findingsFrom, findings}
 use Rattle.rules.specs.Segments.{Present, before, again, later, compared, entryAt, indexFrom, standing, ownCode, moved, skipped, findingsBy, missing, echoed, noted, segmentNote, walk, notesOf}
 use Rattle.rules.specs.Sets.{Set, SetReport}
-use Rattle.rules.specs.Refusals.{goodCall, goodGS, callRules, headRules, endRules, envelopeRules, trailerRules, headerRules, groupRules, answerRules, setRules, refusalRules, refusal}
+use Rattle.rules.specs.Groups.{Group, sets, groupReport}
+use Rattle.rules.specs.Refusals.{goodCall, groupRules, refusal}
 use Rattle.rules.specs.Response.{segmentOut, ak5}
-use Rattle.rules.specs.Damage.{groupIn, setsIn}
+use Rattle.rules.specs.Damage.{groupsIn}
 use Rattle.rules.specs.declared.Call.{Call}
 use Rattle.rules.specs.declared.Delimiters.{Delimiters}
 use Rattle.rules.specs.declared.Kind.the-variants.{DT}
-use Rattle.rules.proofs.Logic.{and-left, and-right, silent}
+use Rattle.rules.proofs.Logic.{and-left, and-right, each-at}
+use Rattle.rules.proofs.Envelope.{clear}
 use Rattle.rules.proofs.Accepting.{Chooses, six, four, Sound, accepting, none-given}
 use Rattle.rules.proofs.Placed.{says-exactly}
 use Rattle.rules.proofs.Calendar.{InCalendar, in-calendar}
 use Rattle.promises.proofs.Trailing.{header-parts}
-use Rattle.promises.proofs.Accepted.{reportAt}
 
 -- eight digits that are a day of the calendar
 pub record Date (bs : Bytes) : Type 0 where
@@ -145,28 +145,36 @@ call-dated call e =
     in-calendar (call .date) (and-right low day (and-left (low && day) time (and-left (low && day && time) control e)))
 
 -- 6. What holds of the dates where an interchange is answered.
--- segment j of what stands between header and trailer of set k
-abbrev pub segmentAt : Bytes → ℕ → Set → ℕ → Segment
-segmentAt i k x j = getD (getD (setsIn i) k x .body) j []
+-- segment j of what stands between header and trailer of set k of a group
+abbrev pub segmentAt : Group → ℕ → Set → ℕ → Segment
+segmentAt g k x j = getD (getD (sets g) k x .body) j []
+
+-- what holds of the dates of a group
+pub record DatedGroup (d : Delimiters) (g : Group) : Type 0 where
+  -- GS04 is a day of the calendar
+  pub gs04 : Date (field (g .header) 4)
+  -- and so is B103, where it is not empty, of every B1 of a set whose AK5 says A
+  pub b103 : (k : ℕ) (x : Set) (y : SetReport) → k < length (sets g) → segmentOut d (ak5 (getD (groupReport d g .sets) k y)) ≡ accepting d
+      → (j : ℕ) → field (segmentAt g k x j) 0 ≡ ascii "B1" → null (field (segmentAt g k x j) 3) ≡ false → Date (field (segmentAt g k x j) 3)
 
 pub record Dated (i : Bytes) (call : Call) : Type 0 where
   -- the caller's date is a day of the calendar
   pub caller : InCalendar (call .date)
-  -- so is GS04
-  pub gs04 : Date (field (groupIn i .header) 4)
-  -- and so is B103, where it is not empty, of every B1 of a set whose AK5 says A
-  pub b103 : (k : ℕ) (x : Set) (y : SetReport) → k < length (setsIn i) → segmentOut (delimiters i) (ak5 (reportAt i k y)) ≡ accepting (delimiters i)
-      → (j : ℕ) → field (segmentAt i k x j) 0 ≡ ascii "B1" → null (field (segmentAt i k x j) 3) ≡ false → Date (field (segmentAt i k x j) 3)
+  -- and so are the dates of each group
+  pub groups : (m : ℕ) (w : Group) → m < length (groupsIn i) → DatedGroup (delimiters i) (getD (groupsIn i) m w)
 
--- Shut out: a program that takes 20230230 in one of the three places.
+group-dated : (d : Delimiters) (g : Group) → first (groupRules d g) ≡ 0 → DatedGroup d g
+group-dated d g e = record {
+  gs04 = date (field (g .header) 4) (header-parts d g e .0);
+  b103 = λ k x y h a j b f. date (field (segmentAt g k x j) 3) (sound-dated d (g .header) _ _ (says-exactly d g k x y h .0 a) j b f);
+}
+
+-- Shut out: a program that takes 20230230 in one of the three places, or looks at the dates of the first group only.
 pub answered-dated : (i : Bytes) (call : Call) → refusal i call ≡ 0 → Dated i call
-unfolding refusal refusalRules callRules headRules endRules envelopeRules trailerRules groupRules headerRules answerRules setRules
 answered-dated i call e =
-    let d = delimiters i in
-    let gs = groupIn i .header in
-    let r = silent (refusalRules i call) tt e in
+    let c = clear i call e in
     record {
-      caller = call-dated call (not-false (goodCall call) (r .0));
-      gs04 = date (field gs 4) (header-parts d gs (not-false (goodGS d gs) (r .1 .1 .1 .1 .1 .1 .1 .1 .1 .1 .0)) .0);
-      b103 = λ k x y h a j b f. date (field (segmentAt i k x j) 3) (sound-dated d gs _ _ (says-exactly i call k x y h .0 a) j b f);
+      caller = call-dated call (c .passed .numbers);
+      groups = λ m w h.
+          group-dated (delimiters i) (getD (groupsIn i) m w) (each-at (λ (g : Group). first (groupRules (delimiters i) g) ≡ 0) (groupsIn i) m w (c .groups) h);
     }

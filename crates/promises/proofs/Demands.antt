@@ -10,11 +10,11 @@ use lib.Dec.{leb, eqb}
 use lib.ListN.{length, drop}
 use Rattle.rules.specs.Base.{Bytes}
 use Rattle.rules.specs.Cutting.{delimiters}
-use Rattle.rules.specs.Sets.{Set}
+use Rattle.rules.specs.Groups.{Group}
 use Rattle.rules.specs.Refusals.{refusal}
 use Rattle.rules.specs.Response.{out, response}
 use Rattle.rules.specs.Answers.{functionalAcknowledgment, Allowed, answer, outcome, called, number, buffer}
-use Rattle.rules.specs.Damage.{Damaged, setsIn, rebuilt, opening, closing, joined, blocksIn, Stays}
+use Rattle.rules.specs.Damage.{DamagedGroups, groupsIn, rebuilt, opening, closing, acknowledgmentsIn, joined, Stays}
 use Rattle.rules.specs.declared.Call.{Call}
 use Rattle.rules.specs.declared.Answer.{Answer}
 use Rattle.rules.proofs.Facts.{allowed-outcome}
@@ -76,25 +76,30 @@ module _ (i lent : Bytes) (call : Call) (a : Answer) (left : Bytes) (p : Allowed
       go true q false k = absurd (omega (arith, rw (q, k) at e′))
       go false q c k = absurd (eqb-false _ 0 q (rw q at e′))
 
--- 3. One spoiled set stays one spoiled set: two calls, before and after any sets of the interchange got other segments between header and trailer.
--- the bytes of a buffer after a response to i: what precedes the blocks, the blocks of the sets, what follows them, and what was lent
+-- 3. One spoiled set stays one spoiled set: two calls, before and after any sets of any groups got other segments between header and trailer.
+-- the bytes of a buffer after a response to i: what precedes the 997s, the 997s of the groups, what follows them, and what was lent
 abbrev pub inParts : Bytes → Bytes → Call → Bytes
 inParts i lent call =
-    out (delimiters i) (opening i call) ++ joined (blocksIn i) ++ out (delimiters i) (closing i call)
+    out (delimiters i) (opening i call) ++ joined (acknowledgmentsIn i) ++ out (delimiters i) (closing i call)
     ++ drop (length (response i call)) lent
 
--- what stays after two calls, on i and on j, which is i with the sets after
-pub record OneSpoiled (i j : Bytes) (after : List Set) (lent lent′ : Bytes) (call : Call) (a′ : Answer) (left left′ : Bytes) : Type 0 where
+-- the same after a response to j, which is i with other segments in some of its sets: what stands around the 997s is as for i
+abbrev pub inPartsSince : Bytes → Bytes → Bytes → Call → Bytes
+inPartsSince i j lent call =
+    out (delimiters i) (opening i call) ++ joined (acknowledgmentsIn j) ++ out (delimiters i) (closing i call)
+    ++ drop (length (response j call)) lent
+
+-- what stays after two calls, on i and on j, which is i with the groups after
+pub record OneSpoiled (i j : Bytes) (after : List Group) (lent lent′ : Bytes) (call : Call) (a′ : Answer) (left left′ : Bytes) : Type 0 where
   pub answered : number a′ ≡ 0
   pub before : left ≡ inParts i lent call
-  pub since : left′ ≡ out (delimiters i) (opening i call) ++ joined (blocksIn j) ++ out (delimiters i) (closing j call)
-      ++ drop (length (response j call)) lent′
+  pub since : left′ ≡ inPartsSince i j lent′ call
   pub stays : Stays i j lent′ after call
 
 -- Demand 3 over what is allowed. Shut out: a damaged set that has the whole interchange refused.
 pub spoiled : (i lent lent′ : Bytes) (call : Call) (a a′ : Answer) (left left′ : Bytes)
     → Allowed (functionalAcknowledgment i call) lent a left → number a ≡ 0
-    → (after : List Set) → Damaged (delimiters i) (setsIn i) after → length (rebuilt i after) ≤ 65536
+    → (after : List Group) → DamagedGroups (delimiters i) (groupsIn i) after → length (rebuilt i after) ≤ 65536
     → Allowed (functionalAcknowledgment (rebuilt i after) call) lent′ a′ left′ → length (response (rebuilt i after) call) ≤ length lent′
     → OneSpoiled i (rebuilt i after) after lent lent′ call a′ left left′
 unfolding Allowed
@@ -109,10 +114,11 @@ spoiled i lent lent′ call a a′ left left′ p e after damaged short q fits =
       stays = s;
     }
 
--- Demand 3 over two calls of `acknowledge`: the first on i, the second on i with other segments in some of its sets, by the same numbers. Shut
--- out: a program in which a set's report depends on what stands inside another set, or a group's codes on what stands inside any.
+-- Demand 3 over two calls of `acknowledge`: the first on i, the second on i with other segments in some sets of any of its groups, by the same
+-- numbers. Shut out: a program in which a set's report depends on what stands inside another set, a group's codes on what stands inside any, or
+-- a 997 on what stands in another group.
 pub spoiled-calls : (κs : _) (a : _) (r : _) (s : _) → acknowledge.Post κs a r s → number r ≡ 0
-    → (after : List Set) → Damaged (delimiters (now (a .0))) (setsIn (now (a .0))) after → length (rebuilt (now (a .0)) after) ≤ 65536
+    → (after : List Group) → DamagedGroups (delimiters (now (a .0))) (groupsIn (now (a .0))) after → length (rebuilt (now (a .0)) after) ≤ 65536
     → (κs′ : _) (a′ : _) (r′ : _) (s′ : _) → acknowledge.Post κs′ a′ r′ s′ → now (a′ .0) ≡ rebuilt (now (a .0)) after → a′ .1 .1 .0 ≡ a .1 .1 .0
     → length (response (rebuilt (now (a .0)) after) (a .1 .1 .0)) ≤ length (now (a′ .1 .0))
     → OneSpoiled (now (a .0)) (rebuilt (now (a .0)) after) after (now (a .1 .0)) (now (a′ .1 .0)) (a .1 .1 .0) r′ (now (s .1 .0)) (now (s′ .1 .0))

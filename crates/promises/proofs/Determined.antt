@@ -45,18 +45,20 @@ use Rattle.segments.proofs.is_named.Reads as segments-is-named
 use Rattle.segments.proofs.is_present.Reads as segments-is-present
 use Rattle.segments.proofs.field_count.Reads as segments-field-count
 use Rattle.envelope.proofs.envelope_of.Reads as envelope-envelope-of
+use Rattle.envelope.proofs.is_of_envelope.Reads as envelope-is-of-envelope
+use Rattle.envelope.proofs.group_ending.Reads as envelope-group-ending
+use Rattle.envelope.proofs.next_group.Reads as envelope-next-group
 use Rattle.envelope.proofs.trailer_fault.Reads as envelope-trailer-fault
 use Rattle.group_header.proofs.header_refusal.Reads as group-header-header-refusal
 use Rattle.group_header.proofs.answer_refusal.Reads as group-header-answer-refusal
 use Rattle.sets.proofs.next_set.Reads as sets-next-set
-use Rattle.sets.proofs.set_refusal.Reads as sets-set-refusal
+use Rattle.sets.proofs.check_sets.Reads as sets-check-sets
 use Rattle.register.proofs.search.Reads as register-search
 use Rattle.register.proofs.field_end.Reads as register-field-end
 use Rattle.refusals.proofs.EnvelopeFault.refusal.Reads as refusals-EnvelopeFault-refusal
 use Rattle.refusals.proofs.check_head.Reads as refusals-check-head
 use Rattle.refusals.proofs.check_envelope.Reads as refusals-check-envelope
-use Rattle.refusals.proofs.group_refusal.Reads as refusals-group-refusal
-use Rattle.refusals.proofs.check.Reads as refusals-check
+use Rattle.refusals.proofs.check_group.Reads as refusals-check-group
 use Rattle.tables.proofs.is_segment.Reads as tables-is-segment
 use Rattle.tables.proofs.is_element.Reads as tables-is-element
 use Rattle.tables.proofs.is_note.Reads as tables-is-note
@@ -261,6 +263,15 @@ segments-field-count-once = ((λ κs a. tt), λ κs a r₁ r₂ s₁ s₂ p q. p
 envelope-envelope-of-once : Determined envelope-envelope-of.Pre envelope-envelope-of.Post (λ κs r s. r)
 envelope-envelope-of-once = ((λ κs a. tt), λ κs a r₁ r₂ s₁ s₂ p q. p ∙ sym q)
 
+envelope-is-of-envelope-once : Determined envelope-is-of-envelope.Pre envelope-is-of-envelope.Post (λ κs r s. r)
+envelope-is-of-envelope-once = ((λ κs a. tt), λ κs a r₁ r₂ s₁ s₂ p q. p ∙ sym q)
+
+envelope-group-ending-once : Determined envelope-group-ending.Pre envelope-group-ending.Post (λ κs r s. r)
+envelope-group-ending-once = ((λ κs a. tt), λ κs a r₁ r₂ s₁ s₂ p q. p ∙ sym q)
+
+envelope-next-group-once : Determined envelope-next-group.Pre envelope-next-group.Post (λ κs r s. r)
+envelope-next-group-once = ((λ κs a. tt), λ κs a r₁ r₂ s₁ s₂ p q. p ∙ sym q)
+
 envelope-trailer-fault-once : Determined envelope-trailer-fault.Pre envelope-trailer-fault.Post (λ κs r s. r)
 envelope-trailer-fault-once = ((λ κs a. tt), λ κs a r₁ r₂ s₁ s₂ p q. p ∙ sym q)
 
@@ -275,8 +286,8 @@ group-header-answer-refusal-once = ((λ κs a. tt), λ κs a r₁ r₂ s₁ s₂
 sets-next-set-once : Determined sets-next-set.Pre sets-next-set.Post (λ κs r s. r)
 sets-next-set-once = ((λ κs a. tt), λ κs a r₁ r₂ s₁ s₂ p q. p ∙ sym q)
 
-sets-set-refusal-once : Determined sets-set-refusal.Pre sets-set-refusal.Post (λ κs r s. r)
-sets-set-refusal-once = ((λ κs a. tt), λ κs a r₁ r₂ s₁ s₂ p q. p ∙ sym q)
+sets-check-sets-once : Determined sets-check-sets.Pre sets-check-sets.Post (λ κs r s. r)
+sets-check-sets-once = ((λ κs a. tt), λ κs a r₁ r₂ s₁ s₂ p q. p ∙ sym q)
 
 -- register
 register-search-once : Determined register-search.Pre register-search.Post (λ κs r s. r)
@@ -292,11 +303,8 @@ refusals-check-head-once = ((λ κs a. tt), λ κs a r₁ r₂ s₁ s₂ p q. p 
 refusals-check-envelope-once : Determined refusals-check-envelope.Pre refusals-check-envelope.Post (λ κs r s. r)
 refusals-check-envelope-once = ((λ κs a. tt), λ κs a r₁ r₂ s₁ s₂ p q. p ∙ sym q)
 
-refusals-group-refusal-once : Determined refusals-group-refusal.Pre refusals-group-refusal.Post (λ κs r s. r)
-refusals-group-refusal-once = ((λ κs a. tt), λ κs a r₁ r₂ s₁ s₂ p q. p ∙ sym q)
-
-refusals-check-once : Determined refusals-check.Pre refusals-check.Post (λ κs r s. r)
-refusals-check-once = ((λ κs a. tt), λ κs a r₁ r₂ s₁ s₂ p q. p ∙ sym q)
+refusals-check-group-once : Determined refusals-check-group.Pre refusals-check-group.Post (λ κs r s. r)
+refusals-check-group-once = ((λ κs a. tt), λ κs a r₁ r₂ s₁ s₂ p q. p ∙ sym q)
 
 -- tables
 tables-is-segment-once : Determined tables-is-segment.Pre tables-is-segment.Post (λ κs r s. r)

@@ -8,14 +8,15 @@ use lib.ListN.{length, drop, getD}
 use Rattle.rules.specs.Base.{Bytes, all}
 use Rattle.rules.specs.Cutting.{delimiters}
 use Rattle.rules.specs.Sets.{Set, SetReport}
+use Rattle.rules.specs.Groups.{Group}
 use Rattle.rules.specs.Refusals.{refusal}
 use Rattle.rules.specs.Response.{out, respond, response}
 use Rattle.rules.specs.Answers.{Reply, functionalAcknowledgment, Outcome, outcome, called}
-use Rattle.rules.specs.Damage.{groupIn, setsIn}
+use Rattle.rules.specs.Damage.{groupsIn}
 use Rattle.rules.specs.declared.Call.{Call}
-use Rattle.rules.proofs.Exchange.{received, sent, sampleCall}
+use Rattle.rules.proofs.Exchange.{received, sent, sampleCall, receivedTwo, sentTwo, Faulty, faulty, receivedOf, refusalOf}
 use Rattle.rules.proofs.Marked.{Marked, marked, receivedFor, sentFor}
-use Rattle.rules.proofs.Tempting.{Group, groups, receivedIn, sentIn}
+use Rattle.rules.proofs.Tempting.{Group as Tempted, groups, receivedIn, sentIn}
 use Rattle.rules.proofs.Unused.{isSpared, respond-spared}
 use Rattle.promises.proofs.Trailing.{isTrim, response-trim}
 use Rattle.promises.proofs.Shown as shown
@@ -23,7 +24,7 @@ use Rattle.promises.proofs.Shown.{holding}
 use Rattle.promises.proofs.Demands.{calls}
 use Rattle.promises.proofs.Spoiling.{callOf}
 use Rattle.promises.proofs.Accepted as accepted
-use Rattle.promises.proofs.Accepted.{Tells, Counts, tells}
+use Rattle.promises.proofs.Accepted.{setsAt, Tells, Counts, tells}
 use Rattle.promises.proofs.Dated.{Dated, answered-dated}
 use Rattle.acknowledgment.proofs.acknowledge.Reads as acknowledge
 use Rattle.x12.proofs.x12_acknowledge.Reads as x12-acknowledge
@@ -43,18 +44,20 @@ pub record Promised (i lent : Bytes) (call : Call) (o : Outcome) : Type 0 where
   -- a number other than 0 leaves the buffer as lent: shut out is a program that writes first and finds the fault afterwards
   pub untouched : (o .number ≡ 0 → ⊥) → o .buffer ≡ lent
   -- an answer is the segments of the law, in bytes, and then what was lent: shut out is a segment too few, too many or at another place
-  pub segments : o .number ≡ 0 → o .buffer ≡ out (delimiters i) (respond i (groupIn i) call) ++ drop (length (response i call)) lent
+  pub segments : o .number ≡ 0 → o .buffer ≡ out (delimiters i) (respond i (groupsIn i) call) ++ drop (length (response i call)) lent
   -- none of them ends with an empty element: shut out is a writer that leaves separators at an end
-  pub trim : o .number ≡ 0 → all isTrim (respond i (groupIn i) call) ≡ true
+  pub trim : o .number ≡ 0 → all isTrim (respond i (groupsIn i) call) ≡ true
   -- none of them is an AK4 with the code 9 or 10: shut out is a program that tells of a bad date by 9
-  pub unused : o .number ≡ 0 → all isSpared (respond i (groupIn i) call) ≡ true
-  -- an answer has the block of set k in its place; its AK5 says A exactly when the set is sound, and its AK4 show of the elements that they name
+  pub unused : o .number ≡ 0 → all isSpared (respond i (groupsIn i) call) ≡ true
+  -- an answer has the block of set k of group m in its place; its AK5 says A exactly when the set is sound, and its AK4 show of the elements that they name
   -- what they may: shut out are "accepted" for all, the first set's verdict for each, a test left out, an echo that is cut at 98 or 100, one under
   -- code 6, one without its minus, and one of the element beside it
-  pub sets : o .number ≡ 0 → (k : ℕ) (x : Set) (y : SetReport) → k < length (setsIn i) → Tells i lent call k x y (o .buffer)
-  -- an answer says in AK903 how many ST segments the group has: shut out is AK903 from thin air
-  pub counts : o .number ≡ 0 → Counts i lent call (o .buffer)
-  -- an answer is given only where the caller's date, GS04, and the B103 of accepted sets are days of the calendar: shut out is a program that takes
+  pub sets : o .number ≡ 0 → (m : ℕ) (w : Group) → m < length (groupsIn i)
+      → (k : ℕ) (x : Set) (y : SetReport) → k < length (setsAt i m w) → Tells i lent call m w k x y (o .buffer)
+  -- an answer has a 997 for group m, the one with the number m + 1, and says in its AK903 how many ST segments the group has: shut out are AK903 from
+  -- thin air, and a count that runs on through the groups
+  pub counts : o .number ≡ 0 → (m : ℕ) (w : Group) → m < length (groupsIn i) → Counts i lent call m w (o .buffer)
+  -- an answer is given only where the caller's date, each GS04, and the B103 of accepted sets are days of the calendar: shut out is a program that takes
   -- 20230230
   pub dated : o .number ≡ 0 → Dated i call
   -- P1 to P12: row k of their table is answered, and its whole response stands at the start of the buffer: shut out is a program that draws one
@@ -62,12 +65,18 @@ pub record Promised (i lent : Bytes) (call : Call) (o : Outcome) : Type 0 where
   pub marked : (m : Marked) (k : ℕ) → k < length marked → i ≡ receivedFor (getD marked k m) → call ≡ sampleCall
       → length (sentFor (getD marked k m)) ≤ length lent → o ≡ holding (sentFor (getD marked k m)) lent
   -- what is tempting and wrong, and the verdicts of a group: shut out are the four programs that 01 names so
-  pub groups : (g : Group) (k : ℕ) → k < length groups → i ≡ receivedIn (getD groups k g) → call ≡ sampleCall
+  pub groups : (g : Tempted) (k : ℕ) → k < length groups → i ≡ receivedIn (getD groups k g) → call ≡ sampleCall
       → length (sentIn (getD groups k g)) ≤ length lent → o ≡ holding (sentIn (getD groups k g)) lent
   -- the printed exchange, in a buffer that holds it and in one that does not: shut out is a program that knows it by the buffer's length
   pub exchange : i ≡ received → call ≡ sampleCall → length sent ≤ length lent → o ≡ holding sent lent
   pub exchange-too-long : i ≡ received → call ≡ sampleCall → length lent < length sent
       → o ≡ record { number = 14; size = length sent; buffer = lent }
+  -- an interchange with two groups, and its whole response: shut out is a program that answers the first alone, or each in an envelope of its own
+  pub two : i ≡ receivedTwo → call ≡ sampleCall → length sentTwo ≤ length lent → o ≡ holding sentTwo lent
+  -- row k of the table of faulty interchanges is refused with the row's number: shut out is a program that skips a group, or that checks in another
+  -- order
+  pub faulty : (f : Faulty) (k : ℕ) → k < length faulty → i ≡ receivedOf (getD faulty k f) → call ≡ sampleCall
+      → o ≡ record { number = refusalOf (getD faulty k f); size = 0; buffer = lent }
 
 module _ (i lent : Bytes) (call : Call) (o : Outcome) (p : o ≡ called (functionalAcknowledgment i call) lent) where
   -- the outcome of a call on what is known to be received
@@ -85,7 +94,7 @@ module _ (i lent : Bytes) (call : Call) (o : Outcome) (p : o ≡ called (functio
   left-is : o .number ≡ 0 → o .buffer ≡ response i call ++ drop (length (response i call)) lent
   left-is e = ap (λ (o : Outcome). o .buffer) (p ∙ shown.answered reply lent (wrote e .0) (wrote e .1))
 
-  written-out : o .number ≡ 0 → o .buffer ≡ out (delimiters i) (respond i (groupIn i) call) ++ drop (length (response i call)) lent
+  written-out : o .number ≡ 0 → o .buffer ≡ out (delimiters i) (respond i (groupsIn i) call) ++ drop (length (response i call)) lent
   unfolding response
   written-out = left-is
 
@@ -97,14 +106,16 @@ module _ (i lent : Bytes) (call : Call) (o : Outcome) (p : o ≡ called (functio
     untouched = λ h. ap (λ (o : Outcome). o .buffer) p ∙ shown.untouched reply lent (λ e. h (ap (λ (o : Outcome). o .number) p ∙ e));
     segments = written-out;
     trim = λ e. response-trim i call (wrote e .0);
-    unused = λ e. respond-spared i (groupIn i) call;
-    sets = λ e. tells i lent call (o .buffer) (left-is e);
-    counts = λ e. accepted.counts i lent call (o .buffer) (left-is e);
+    unused = λ e. respond-spared i (groupsIn i) call;
+    sets = λ e m w among. tells i lent call (o .buffer) (left-is e) m w among;
+    counts = λ e m w among. accepted.counts i lent call (o .buffer) (left-is e) m w among;
     dated = λ e. answered-dated i call (wrote e .0);
     marked = λ m k h e f room. onto e f ∙ shown.marked-shown m k h lent room;
     groups = λ g k h e f room. onto e f ∙ shown.groups-shown g k h lent room;
     exchange = λ e f room. onto e f ∙ shown.exchange-shown lent room;
     exchange-too-long = λ e f h. onto e f ∙ shown.exchange-too-long lent h;
+    two = λ e f room. onto e f ∙ shown.two-shown lent room;
+    faulty = λ row k h e f. onto e f ∙ shown.faulty-shown row k h lent;
   }
 
 -- All of it holds of the Rattle function,

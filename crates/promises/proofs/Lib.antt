@@ -7,5 +7,7 @@ pub mod Accepted
 pub mod Dated
 pub mod Faces
 pub mod Agreement
+pub mod Alone
+pub mod OneGroup
 pub mod Printed
 pub mod Determined

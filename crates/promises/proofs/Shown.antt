@@ -1,16 +1,17 @@
 -- The outcome of a call, whichever face it was made by: what each number says of the length and the buffer, and the examples of document 01.
-use mathlib.Core.Path.{_≡_, refl, ap, _∙_}
-use mathlib.Core.Bool.{Bool, true, false, _&&_}
+use mathlib.Core.Path.{_≡_, refl, sym, ap, _∙_}
+use mathlib.Core.Bool.{Bool, true, false, _&&_, not}
 use mathlib.Core.List.{_++_}
 use Prim.Native.Nat.{ℕ, _≤_, _<_}
 use native.Mathlib.Omega.{arith}
-use borrow.Author.Tests.{ne-eqb, eqb-true, eqb-false, leb-true, le-leb, lt-leb}
+use borrow.Author.Tests.{not-true, ne-eqb, eqb-true, eqb-false, leb-true, le-leb, lt-leb}
 use lib.Dec.{leb, eqb}
 use lib.ListN.{length, drop, getD}
 use Rattle.rules.specs.Base.{Bytes, same}
+use Rattle.rules.specs.Refusals.{refusal}
 use Rattle.rules.specs.Answers.{Reply, functionalAcknowledgment, interchangeAcknowledgment, Outcome, answer, called}
 use Rattle.rules.proofs.Logic.{and-left, and-right, all-at, same→eq}
-use Rattle.rules.proofs.Exchange.{received, sent, sampleCall, not-refused, responds}
+use Rattle.rules.proofs.Exchange.{received, sent, sampleCall, not-refused, responds, receivedTwo, sentTwo, two-not-refused, two-respond, Faulty, faulty, receivedOf, refusalOf, isRefused, all-refused}
 use Rattle.rules.proofs.Marked.{Marked, marked, receivedFor, sentFor}
 use Rattle.rules.proofs.Tempting.{Group, groups, receivedIn, sentIn}
 use Rattle.rules.proofs.Marked as single
@@ -102,7 +103,28 @@ pub exchange-too-long : (lent : Bytes) → length lent < length sent
     → called (functionalAcknowledgment received sampleCall) lent ≡ record { number = 14; size = length sent; buffer = lent }
 exchange-too-long lent h = too-long (functionalAcknowledgment received sampleCall) lent not-refused (rw responds h) ∙ rw responds
 
--- The envelopes of change request 3, row k of their table. Shut out: a program that draws one of these lines elsewhere.
+-- Two groups, on any buffer: the whole response. Shut out: a program that answers the first group alone, or in an envelope each.
+pub two-shown : (lent : Bytes) → length sentTwo ≤ length lent → called (functionalAcknowledgment receivedTwo sampleCall) lent ≡ holding sentTwo lent
+two-shown lent room = held (functionalAcknowledgment receivedTwo sampleCall) sentTwo lent two-not-refused two-respond room
+
+-- Faulty interchanges, row k of their table: each is refused with its number. Shut out: a program that skips a group, or that checks them in another
+-- order.
+pub faulty-shown : (f : Faulty) (k : ℕ) → k < length faulty → (lent : Bytes)
+    → called (functionalAcknowledgment (receivedOf (getD faulty k f)) sampleCall) lent
+    ≡ record { number = refusalOf (getD faulty k f); size = 0; buffer = lent }
+unfolding isRefused
+faulty-shown f k h lent =
+    let row = getD faulty k f in
+    let n = refusalOf row in
+    let right = all-at isRefused faulty f k all-refused h in
+    let some = not (eqb n 0) in
+    let by = eqb (refusal (receivedOf row) sampleCall) n in
+    let number = eqb-true (refusal (receivedOf row) sampleCall) n (and-right some by right) in
+    refused (functionalAcknowledgment (receivedOf row) sampleCall) lent
+    (λ z. eqb-false n 0 (not-true (eqb n 0) (and-left some by right)) (sym number ∙ z))
+    ∙ rw number
+
+-- The envelopes of change requests 3 and 6, row k of their table. Shut out: a program that draws one of these lines elsewhere.
 pub envelopes-shown : (e : Row) (k : ℕ) → k < length envelopes → (lent : Bytes) → length (sentAs (getD envelopes k e)) ≤ length lent
     → called (interchangeAcknowledgment (receivedAs (getD envelopes k e)) sampleCall) lent ≡ holding (sentAs (getD envelopes k e)) lent
 unfolding ta1.isRight

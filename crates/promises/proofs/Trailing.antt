@@ -3,11 +3,11 @@ use mathlib.Core.Path.{_≡_, refl}
 use mathlib.Core.Bool.{Bool, true, false, _&&_, not, false≢true}
 use mathlib.Core.List.{List, [], _∷_, _++_, map}
 use mathlib.Core.Option.{Option, none, some}
-use Prim.Native.Nat.{ℕ, _+_, _/_, _%_}
+use Prim.Native.Nat.{ℕ, suc, _+_, _/_, _%_}
 use borrow.Author.Tests.{not-false}
 use lib.Dec.{eqb}
 use lib.ListN.{length}
-use Rattle.rules.specs.Base.{Bytes, ascii, null, all, last, isUpperOrDigit, keep, every, _⇒_, if_then_else_}
+use Rattle.rules.specs.Base.{Bytes, ascii, null, all, last, isUpperOrDigit, keep, first, every, _⇒_, if_then_else_}
 use Rattle.rules.specs.Cutting.{Segment, field, delimiters, text}
 use Rattle.rules.specs.Numbers.{digits, isDate, isTime, padded, decimal}
 use Rattle.rules.specs.Tables.{Table, Entry}
@@ -15,12 +15,13 @@ use Rattle.rules.specs.Elements.{Finding}
 use Rattle.rules.specs.Segments.{Note, missing, echoed, noted, segmentNote, walk, notesOf}
 use Rattle.rules.specs.Sets.{Set, controlOf, notesIn, SetReport, setReport, accepted}
 use Rattle.rules.specs.Groups.{Group, sets, tableIn, setReports, GroupReport, groupReport}
-use Rattle.rules.specs.Refusals.{goodGS, goodST, callRules, headRules, endRules, envelopeRules, trailerRules, headerRules, groupRules, answerRules, setRules, refusalRules, refusal}
-use Rattle.rules.specs.Response.{trailing, ak4, ak3, ak3s, ak2, ak5, block, blocks, ak1, ak9, stOut, seOut, told, transactionSet, isaOut, gsOut, geOut, ieaOut, respond}
-use Rattle.rules.specs.Damage.{groupIn, reportIn}
+use Rattle.rules.specs.Refusals.{goodGS, goodST, headerRules, answerRules, setRules, groupRules, refusal}
+use Rattle.rules.specs.Response.{trailing, ak4, ak3, ak3s, ak2, ak5, block, blocks, ak1, ak9, stOut, seOut, told, transactionSet, transactionSets, isaOut, gsOut, geOut, ieaOut, respond}
+use Rattle.rules.specs.Damage.{groupsIn}
 use Rattle.rules.specs.declared.Call.{Call}
 use Rattle.rules.specs.declared.Delimiters.{Delimiters}
-use Rattle.rules.proofs.Logic.{and-left, and-right, all-head, all-tail, all-cons, all-append, last-all, silent}
+use Rattle.rules.proofs.Logic.{and-left, and-right, all-head, all-tail, all-cons, all-append, last-all, silent, Each, each-map}
+use Rattle.rules.proofs.Envelope.{clear}
 use Rattle.rules.proofs.Lengths.{either}
 use Rattle.promises.proofs.Numerals.{decimal-some}
 
@@ -55,9 +56,9 @@ append-filled : (bs : Bytes) (b : ℕ) → isFilled (bs ++ b ∷ []) ≡ true
 append-filled [] b = refl
 append-filled (x ∷ bs) b = refl
 
-padded-filled : (n : ℕ) → isFilled (padded 9 n) ≡ true
+padded-filled : (w n : ℕ) → isFilled (padded (suc w) n) ≡ true
 unfolding padded
-padded-filled n = append-filled (padded 8 (n / 10)) (48 + n % 10)
+padded-filled w n = append-filled (padded w (n / 10)) (48 + n % 10)
 
 -- 3. The segments, one after the other.
 trailing-trim : (first e : Bytes) → isFilled first ≡ true → isFilled (last first (trailing e)) ≡ true
@@ -121,20 +122,28 @@ transaction-trim st02 g e f =
     (all-append isTrim (blocks (g .sets)) (ak9 g ∷ []) (blocks-trim (g .sets) (f .sets)) (all-cons isTrim (ak9 g) [] (ak9-trim g) refl))))
     (all-cons isTrim (seOut n st02) [] e refl)
 
--- Every segment that is written for a report with these parts ends with a filled element. A writer that puts a separator for an element that
--- is not there, as AK5 without codes or an AK3 without a code, is shut out.
-pub respond-trim : (i : Bytes) (g : Group) (call : Call) → Filled (groupReport (delimiters i) g) → all isTrim (respond i g call) ≡ true
-unfolding respond isaOut gsOut geOut ieaOut last all
-respond-trim i g call f =
-    let d = delimiters i in
-    let ts = transactionSet (ascii "0001") (groupReport d g) in
-    let ge = geOut 1 (call .control) in
-    let iea = ieaOut 1 (call .control) in
-    all-append isTrim ts (ge ∷ iea ∷ []) (transaction-trim (ascii "0001") (groupReport d g) refl f)
-    (all-cons isTrim ge (iea ∷ []) (number-filled (call .control))
-    (all-cons isTrim iea [] (padded-filled (call .control)) refl))
+transactions-trim : (n : ℕ) (gs : List GroupReport) → Each Filled gs → all isTrim (transactionSets n gs) ≡ true
+unfolding transactionSets Each all
+transactions-trim n [] f = refl
+transactions-trim n (g ∷ gs) f =
+    all-append isTrim (transactionSet (padded 4 n) g) (transactionSets (n + 1) gs) (transaction-trim (padded 4 n) g (padded-filled 3 n) (f .0))
+    (transactions-trim (n + 1) gs (f .1))
 
--- 4. What is reported of an interchange that is not refused has these parts.
+-- Every segment that is written for groups whose reports have these parts ends with a filled element. A writer that puts a separator for an
+-- element that is not there, as AK5 without codes or an AK3 without a code, is shut out.
+pub respond-trim : (i : Bytes) (gs : List Group) (call : Call) → Each (λ g. Filled (groupReport (delimiters i) g)) gs
+    → all isTrim (respond i gs call) ≡ true
+unfolding respond isaOut gsOut geOut ieaOut last all
+respond-trim i gs call f =
+    let d = delimiters i in
+    let reports = map (groupReport d) gs in
+    let ge = geOut (length gs) (call .control) in
+    let iea = ieaOut 1 (call .control) in
+    all-append isTrim (transactionSets 1 reports) (ge ∷ iea ∷ []) (transactions-trim 1 reports (each-map Filled (groupReport d) gs f))
+    (all-cons isTrim ge (iea ∷ []) (number-filled (call .control))
+    (all-cons isTrim iea [] (padded-filled 8 (call .control)) refl))
+
+-- 4. What is reported of each group of an interchange that is not refused has these parts.
 missing-coded : (n : ℕ) (es : List Entry) → all isCoded (missing n es) ≡ true
 unfolding missing all
 missing-coded n es = go (keep (λ e. e .mandatory) es)
@@ -188,10 +197,13 @@ reports-named d table controls (s ∷ ss) e =
     let st02 = text-filled d (controlOf s) (and-right (digits 3 3 (field (s .header) 1)) (text d 4 9 (controlOf s)) (all-head good s ss e)) in
     rw (st02, notes-coded d (table s) s) (reports-named d table (controlOf s ∷ controls) ss (all-tail good s ss e))
 
--- GS04 and GS06 of a GS that breaks no rule
-pub header-parts : (d : Delimiters) (gs : Segment) → goodGS d gs ≡ true → (isDate (field gs 4) ≡ true) × (digits 1 9 (field gs 6) ≡ true)
-unfolding goodGS
-header-parts d gs e =
+-- GS04 and GS06 of a group that is not refused
+pub header-parts : (d : Delimiters) (g : Group) → first (groupRules d g) ≡ 0
+    → (isDate (field (g .header) 4) ≡ true) × (digits 1 9 (field (g .header) 6) ≡ true)
+unfolding groupRules headerRules answerRules setRules goodGS
+header-parts d g e =
+    let gs = g .header in
+    let good = not-false (goodGS d gs) (silent (groupRules d g) tt e .0) in
     let before =
     eqb (length gs) 9
     && eqb (length (field gs 1)) 2 && all isUpperOrDigit (field gs 1)
@@ -201,24 +213,28 @@ header-parts d gs e =
     let gs06 = digits 1 9 (field gs 6) in
     let gs07 = text d 1 2 (field gs 7) in
     let up-to = before && gs04 && gs05 && gs06 in
-    let e6 = and-left up-to gs07 (and-left (up-to && gs07) (text d 1 12 (field gs 8)) e) in
+    let e6 = and-left up-to gs07 (and-left (up-to && gs07) (text d 1 12 (field gs 8)) good) in
     (and-right before gs04 (and-left (before && gs04) gs05 (and-left (before && gs04 && gs05) gs06 e6)), and-right (before && gs04 && gs05) gs06 e6)
 
--- A refusal that lets an empty GS06 or ST02 pass is shut out.
-pub answered-filled : (i : Bytes) (call : Call) → refusal i call ≡ 0 → Filled (reportIn i)
-unfolding refusal refusalRules callRules headRules endRules envelopeRules trailerRules groupRules headerRules answerRules setRules groupReport
-answered-filled i call e =
-    let d = delimiters i in
-    let g = groupIn i in
-    let r = silent (refusalRules i call) tt e in
-    record {
-      gs06 = digits-filled (field (g .header) 6) (header-parts d (g .header) (not-false (goodGS d (g .header)) (r .1 .1 .1 .1 .1 .1 .1 .1 .1 .1 .0)) .1);
-      sets =
-          reports-named d (tableIn (g .header)) [] (sets g)
-          (not-false (all (λ s. goodST d (s .header)) (sets g)) (r .1 .1 .1 .1 .1 .1 .1 .1 .1 .1 .1 .1 .1 .1 .0));
-    }
+group-filled : (d : Delimiters) (g : Group) → first (groupRules d g) ≡ 0 → Filled (groupReport d g)
+unfolding groupRules headerRules answerRules setRules groupReport
+group-filled d g e = record {
+  gs06 = digits-filled (field (g .header) 6) (header-parts d g e .1);
+  sets =
+      reports-named d (tableIn (g .header)) [] (sets g)
+      (not-false (all (λ s. goodST d (s .header)) (sets g)) (silent (groupRules d g) tt e .1 .1 .1 .1 .0));
+}
+
+groups-filled : (d : Delimiters) (gs : List Group) → Each (λ g. first (groupRules d g) ≡ 0) gs → Each (λ g. Filled (groupReport d g)) gs
+unfolding Each
+groups-filled d [] e = tt
+groups-filled d (g ∷ gs) e = (group-filled d g (e .0), groups-filled d gs (e .1))
+
+-- A refusal that lets an empty GS06 or ST02 pass in any group is shut out.
+pub answered-filled : (i : Bytes) (call : Call) → refusal i call ≡ 0 → Each (λ g. Filled (groupReport (delimiters i) g)) (groupsIn i)
+answered-filled i call e = groups-filled (delimiters i) (groupsIn i) (clear i call e .groups)
 
 -- Every segment of the response to an interchange that is not refused ends with a filled element. A program that writes a separator for an
 -- element that is not there is shut out.
-pub response-trim : (i : Bytes) (call : Call) → refusal i call ≡ 0 → all isTrim (respond i (groupIn i) call) ≡ true
-response-trim i call e = respond-trim i (groupIn i) call (answered-filled i call e)
+pub response-trim : (i : Bytes) (call : Call) → refusal i call ≡ 0 → all isTrim (respond i (groupsIn i) call) ≡ true
+response-trim i call e = respond-trim i (groupsIn i) call (answered-filled i call e)

@@ -1,37 +1,42 @@
 -- The first number that is not 0, stage by stage, and what the checks answer.
-use mathlib.Core.Path.{_≡_, refl, sym, _∙_}
+use mathlib.Core.Path.{_≡_, refl, sym, ap, _∙_}
 use mathlib.Core.Bool.{Bool, true, false, not}
 use mathlib.Core.List.{List, [], _∷_, _++_}
-use Prim.Native.Nat.{ℕ}
+use Prim.Native.Nat.{ℕ, _+_, _<_}
 use native.Mathlib.Omega.{arith}
-use borrow.Author.Tests.{eqb-true, eqb-false, ne-eqb}
-use lib.Dec.{T, eqb}
+use borrow.Author.Tests.{eqb-true, eqb-false, ltb-true, ltb-false, lt-ltb, ne-eqb}
+use lib.Dec.{T, ltb, eqb}
+use lib.ListN.{length}
 use Rattle.rules.specs.Base.{Bytes, Rule, _⇒_, first, last, if_then_else_}
 use Rattle.rules.specs.Cutting.{field, isa, delimiters, segments, split}
-use Rattle.rules.specs.Groups.{groupOf}
-use Rattle.rules.specs.Refusals.{callRules, headRules, isTerminated, endRules, enveloped, envelopeRules, hasTwo, closes, countsGroups, trailerRules, headerRules, answerRules, setRules, groupRules, refusalRules, refusal}
+use Rattle.rules.specs.Groups.{Group, groupsOf}
+use Rattle.rules.specs.Refusals.{goodCall, callRules, headRules, isTerminated, endRules, enveloped, mostGroups, envelopeRules, hasTwo, closes, countsGroups, trailerRules, goodGS, headerRules, answerRules, setRules, groupRules, groupsRules, refusalRules, refusal}
 use Rattle.rules.specs.declared.Call.{Call}
 use Rattle.rules.specs.declared.Delimiters.{Delimiters}
-use Rattle.rules.proofs.Logic.{numbered, first-append}
-use Rattle.rules.proofs.Facts.{firstOf, refusal-blocks, group-blocks}
+use Rattle.rules.proofs.Logic.{orElse, numbered, first-append}
+use Rattle.rules.proofs.Facts.{firstOf, group-blocks}
 use Rattle.isa.specs.Delimited.{isaOf}
 use Rattle.isa.specs.declared.Isa.the-variants as isas
 use Rattle.isa.proofs.Reading.{isa-sound, isa-refused}
 use Rattle.text.specs.Text.{part}
-use Rattle.envelope.specs.Places.{groupAt, envelopeOf}
+use Rattle.envelope.specs.Places.{endOf, bodyEnd, groupEnding, groupStarting, groupAt, nextGroup, envelopeOf}
 use Rattle.envelope.specs.Faults.{trailerFault}
 use Rattle.envelope.specs.declared.GroupAt.{GroupAt}
+use Rattle.envelope.specs.declared.NextGroup.the-variants.{Found}
 use Rattle.envelope.specs.declared.Envelope.{Envelope}
 use Rattle.envelope.specs.declared.Enveloped.{Enveloped}
 use Rattle.envelope.specs.declared.Enveloped.the-variants.{Whole, Broken}
 use Rattle.envelope.specs.declared.TrailerFault.{TrailerFault}
 use Rattle.envelope.specs.declared.TrailerFault.the-variants as trailers
-use Rattle.envelope.proofs.Laws.{EnvelopeIs, whole-is, broken-is, broken-refused}
-use Rattle.refusals.specs.Checks.{headChecked, faultRefusal, checkBy, soundBut, placedBut, trailerCheck, envelopeCheck, soundIn, soundUnless, checked}
+use Rattle.envelope.proofs.Places.{part-past}
+use Rattle.envelope.proofs.Laws.{EnvelopeIs, found-starts, whole-is, broken-is}
+use Rattle.sets.specs.Places.{bodyFrom, setsChecked}
+use Rattle.sets.specs.declared.SetsCheck.the-variants as checks
+use Rattle.refusals.specs.Checks.{headChecked, faultRefusal, checkBy, soundBut, placedBut, trailerCheck, envelopeCheck, groupCheck}
 use Rattle.refusals.specs.declared.EnvelopeFault.{EnvelopeFault}
 use Rattle.refusals.specs.declared.EnvelopeFault.the-variants.{NotTerminated, OutOfPlace, NotTwoElements, OtherControl, OtherCount}
 use Rattle.refusals.specs.declared.EnvelopeCheck.the-variants as envelopes
-use Rattle.refusals.specs.declared.Checked.the-variants.{Sound, Refused}
+use Rattle.refusals.specs.declared.GroupCheck.the-variants as groups
 
 -- 1. The first that is not 0.
 -- this stage has a refusal
@@ -58,51 +63,7 @@ block : (rs ss : List Rule) (ns : List ℕ) {n : ℕ} → T (numbered rs) → n 
 unfolding firstOf
 block rs ss ns t p q = first-append rs ss t ∙ rw (p, q)
 
--- where it is 0, all are
-abbrev Clear : List ℕ → Type 0
-Clear [] = Unit {0}
-Clear (n ∷ ns) = (n ≡ 0) × Clear ns
-
-clear : (ns : List ℕ) → firstOf ns ≡ 0 → Clear ns
-unfolding firstOf
-clear [] e = tt
-clear (n ∷ ns) e = go (eqb n 0) refl (clear ns)
-  where
-    go : (b : Bool) → eqb n 0 ≡ b → (firstOf ns ≡ 0 → Clear ns) → (n ≡ 0) × Clear ns
-    go true p rest = (eqb-true n 0 p, rest (rw p at e))
-    go false p rest = absurd (eqb-false n 0 p (rw p at e))
-
--- the stages of an interchange without a refusal, those that say something to who answers it
-pub record Unrefused (i : Bytes) : Type 0 where
-  pub head : first (headRules i) ≡ 0
-  pub envelope : first (envelopeRules (segments (delimiters i) i)) ≡ 0
-  pub sets : first (setRules (delimiters i) (groupOf (segments (delimiters i) i) .body)) ≡ 0
-
--- where there is no refusal, no stage has one
-pub unrefused : (i : Bytes) (call : Call) → refusal i call ≡ 0 → Unrefused i
-unrefused i call e =
-    let stages = clear _ (sym (refusal-blocks i call) ∙ e) in
-    let group = clear _ (sym (group-blocks (delimiters i) (groupOf (segments (delimiters i) i))) ∙ stages .1 .1 .1 .1 .1 .0) in
-    record { head = stages .1 .0; envelope = stages .1 .1 .1 .0; sets = group .1 .1 .0 }
-
--- 2. Refusals 9 to 13, by the bytes at their places.
-module _ (d : Delimiters) (i : Bytes) {n : ℕ} where
-  -- 9, of GS
-  pub header-stage : (g : GroupAt) {gs : Bytes} → gs ≡ part i (g .gs) (g .«gs_end») → n ≡ first (headerRules d (split (d .element) gs))
-      → n ≡ first (headerRules d (groupAt d i g .header))
-  header-stage g q p = p ∙ rw q
-
-  -- 10, of GS
-  pub answer-stage : (g : GroupAt) {gs : Bytes} → gs ≡ part i (g .gs) (g .«gs_end») → n ≡ first (answerRules (split (d .element) gs))
-      → n ≡ first (answerRules (groupAt d i g .header))
-  answer-stage g q p = p ∙ rw q
-
-  -- 11 to 13, of the group's segments
-  pub sets-stage : (g : GroupAt) {body : Bytes} → body ≡ part i (g .body) (g .«body_end») → n ≡ first (setRules d (segments d body))
-      → n ≡ first (setRules d (groupAt d i g .body))
-  sets-stage g q p = p ∙ rw q
-
--- 3. Refusals 1 to 5.
+-- 2. Refusals 1 to 5.
 module _ (i : Bytes) (call : Call) where
   head-blocks : first (callRules call ++ headRules i) ≡ firstOf (first (callRules call) ∷ (first (headRules i) ∷ []))
   unfolding callRules
@@ -129,17 +90,26 @@ module _ (i : Bytes) (call : Call) where
   unfolding headChecked
   head-sound e = isa-sound _ _ e
 
--- 4. Refusals 6 to 8.
+  -- and no rule of ISA alone
+  isa-clear : first (callRules call ++ headRules i) ≡ 0 → first (headRules i) ≡ 0
+  unfolding callRules first
+  isa-clear e = go (goodCall call) refl
+    where
+      go : (b : Bool) → goodCall call ≡ b → first (headRules i) ≡ 0
+      go true q = rw q at e
+      go false q = let z : _≡_ {A = ℕ} 1 0 = rw q at e in absurd (omega arith)
+
+-- 3. Refusals 6 to 8.
 abbrev isWhole : Enveloped → Bool
 isWhole (Whole v) = true
 isWhole Broken = false
 
-whole-enveloped : (d : Delimiters) (i : Bytes) → isWhole (envelopeOf d i) ≡ enveloped (segments d i)
-whole-enveloped d i = go (envelopeOf d i) refl
+whole-enveloped : (d : Delimiters) (i : Bytes) → isWhole (envelopeOf mostGroups d i) ≡ enveloped mostGroups (segments d i)
+whole-enveloped d i = go (envelopeOf mostGroups d i) refl
   where
-    go : (w : Enveloped) → envelopeOf d i ≡ w → isWhole w ≡ enveloped (segments d i)
-    go (Whole v) q = sym (whole-is d i q .envelope)
-    go Broken q = sym (broken-is d i q)
+    go : (w : Enveloped) → envelopeOf mostGroups d i ≡ w → isWhole w ≡ enveloped mostGroups (segments d i)
+    go (Whole v) q = sym (whole-is mostGroups d i q .envelope)
+    go Broken q = sym (broken-is mostGroups d i q)
 
 -- the number of the first test that fails: the end, the places, and the three of IEA
 tests-by : (a b c e f : ℕ) (t : Bool) (w : Enveloped) (x y z : Bool)
@@ -165,7 +135,7 @@ sound-placed (Whole u) trailers.OtherCount q = let z : _≡_ {A = ℕ} 0 1 = cc 
 
 module _ (d : Delimiters) (i : Bytes) where
   -- 8, by the bytes at the place of IEA
-  pub trailer-checked : (v : Envelope) {iea isa13 : Bytes} {x : TrailerFault} → x ≡ trailerFault (split (d .element) iea) 1 isa13
+  pub trailer-checked : (v : Envelope) {iea isa13 : Bytes} {x : TrailerFault} → x ≡ trailerFault (split (d .element) iea) (v .groups) isa13
       → iea ≡ part i (v .iea) (v .«iea_end») → isa13 ≡ field (isa i) 13 → soundBut v x ≡ trailerCheck d i v
   unfolding trailerCheck
   trailer-checked v p q r = rw (p, q, r)
@@ -177,14 +147,14 @@ module _ (d : Delimiters) (i : Bytes) where
 
   module _ (terminated : isTerminated d i ≡ true) where
     -- 7
-    pub misplaced : envelopeOf d i ≡ Broken → envelopes.Faulty OutOfPlace ≡ envelopeCheck d i
+    pub misplaced : envelopeOf mostGroups d i ≡ Broken → envelopes.Faulty OutOfPlace ≡ envelopeCheck d i
     unfolding envelopeCheck
     misplaced w = rw (terminated, w)
 
     -- past them, what is read of IEA at its place is what the law reads
-    pub placed : {v : Envelope} → envelopeOf d i ≡ Whole v → trailerCheck d i v ≡ envelopeCheck d i
+    pub placed : {v : Envelope} → envelopeOf mostGroups d i ≡ Whole v → trailerCheck d i v ≡ envelopeCheck d i
     unfolding envelopeCheck trailerCheck
-    placed w = rw (terminated, w, whole-is d i w .trailer)
+    placed w = let e = whole-is mostGroups d i w in rw (terminated, w, e .trailer, e .counted)
 
   -- With a number for each test, that of the check is that of the first test that fails.
   pub check-by : (a b c e f : ℕ)
@@ -193,41 +163,137 @@ module _ (d : Delimiters) (i : Bytes) where
       checkBy a b c e f (envelopeCheck d i)
       ≡ first (
       (not (isTerminated d i) ⇒ a)
-      ∷ ((not (enveloped ss) ⇒ b)
+      ∷ ((not (enveloped mostGroups ss) ⇒ b)
       ∷ ((not (hasTwo iea) ⇒ c)
       ∷ ((not (closes iea (field (isa i) 13)) ⇒ e)
-      ∷ ((not (countsGroups 1 iea) ⇒ f)
+      ∷ ((not (countsGroups (length (groupsOf ss)) iea) ⇒ f)
       ∷ [])))))
   unfolding envelopeCheck trailerFault
   check-by a b c e f =
-      let iea = last [] (segments d i) in
-      tests-by a b c e f (isTerminated d i) (envelopeOf d i) (hasTwo iea) (closes iea (field (isa i) 13)) (countsGroups 1 iea)
+      let ss = segments d i in
+      let iea = last [] ss in
+      tests-by a b c e f (isTerminated d i) (envelopeOf mostGroups d i) (hasTwo iea) (closes iea (field (isa i) 13)) (countsGroups (length (groupsOf ss)) iea)
       ∙ rw (whole-enveloped d i)
 
   -- With the numbers of document 01, that is the first of its rules.
   pub check-refusal : let ss = segments d i in
       checkBy 6 7 8 8 8 (envelopeCheck d i)
-      ≡ first (endRules d i ++ envelopeRules ss ++ trailerRules (last [] ss) 1 (field (isa i) 13))
+      ≡ first (endRules d i ++ envelopeRules mostGroups ss ++ trailerRules (last [] ss) (length (groupsOf ss)) (field (isa i) 13))
   unfolding endRules envelopeRules trailerRules
   check-refusal = check-by 6 7 8 8 8
 
   -- a sound check has the envelope of the interchange
-  check-sound : {v : Envelope} → envelopeCheck d i ≡ envelopes.Sound v → envelopeOf d i ≡ Whole v
+  check-sound : {v : Envelope} → envelopeCheck d i ≡ envelopes.Sound v → envelopeOf mostGroups d i ≡ Whole v
   unfolding envelopeCheck
   check-sound {v} q = go (isTerminated d i) refl
     where
-      go : (t : Bool) → isTerminated d i ≡ t → envelopeOf d i ≡ Whole v
+      go : (t : Bool) → isTerminated d i ≡ t → envelopeOf mostGroups d i ≡ Whole v
       go true p = sound-placed _ _ (rw p at q)
       go false p = let z = rw p at q in let z : _≡_ {A = ℕ} 0 1 = cc in absurd (omega arith)
 
--- 5. Refusals 1 to 13.
--- the refusal decides
-unless-refused : (d : Delimiters) (i : Bytes) {n m : ℕ} → m ≡ n → (m ≡ 0 → ⊥) → Refused m ≡ soundUnless n d i
-unless-refused d i {m = m} e h = rw (← e, ne-eqb m 0 h)
+-- 4. Refusals 9 to 13.
+-- what a check of sets says
+module _ (d : Delimiters) (i : Bytes) (at : ℕ) where
+  sets-sound : {end : ℕ} → setsChecked d i at ≡ checks.Sound end → (first (setRules d (bodyFrom d i at)) ≡ 0) × (end ≡ bodyEnd d i at)
+  unfolding setsChecked
+  sets-sound {end} e = go (eqb (first (setRules d (bodyFrom d i at))) 0) refl
+    where
+      go : (b : Bool) → eqb (first (setRules d (bodyFrom d i at))) 0 ≡ b → (first (setRules d (bodyFrom d i at)) ≡ 0) × (end ≡ bodyEnd d i at)
+      go true p = (eqb-true _ 0 p, cc (rw p at e))
+      go false p = let z = rw p at e in let z : _≡_ {A = ℕ} 0 1 = cc in absurd (omega arith)
 
-unless-sound : (d : Delimiters) (i : Bytes) {n : ℕ} {v : Envelope} → 0 ≡ n → envelopeOf d i ≡ Whole v → Sound d v ≡ soundUnless n d i
-unless-sound d i z w = rw (← z, w)
+  sets-refused : {n : ℕ} → setsChecked d i at ≡ checks.Refused n → (n ≡ first (setRules d (bodyFrom d i at))) × (n ≡ 0 → ⊥)
+  unfolding setsChecked
+  sets-refused {n} e = go (eqb (first (setRules d (bodyFrom d i at))) 0) refl
+    where
+      go : (b : Bool) → eqb (first (setRules d (bodyFrom d i at))) 0 ≡ b → (n ≡ first (setRules d (bodyFrom d i at))) × (n ≡ 0 → ⊥)
+      go true p = let z = rw p at e in let z : _≡_ {A = ℕ} 0 1 = cc in absurd (omega arith)
+      go false p = let q : n ≡ first (setRules d (bodyFrom d i at)) = cc (rw p at e) in (q, λ z. eqb-false _ 0 p (sym q ∙ z))
 
+-- the group whose GS starts at an offset, by its GS, which was read
+module _ (d : Delimiters) (i : Bytes) (at : ℕ) where
+  abbrev group : Group
+  group = groupAt d i (groupStarting d i at)
+
+  refused-by : {n : ℕ} → n ≡ first (groupRules d group) → (n ≡ 0 → ⊥) → groups.Refused n ≡ groupCheck d i at
+  unfolding groupCheck
+  refused-by {n} e h = rw (← e, ne-eqb n 0 h)
+
+  passed-by : first (groupRules d group) ≡ 0 → groups.Sound (groupStarting d i at) ≡ groupCheck d i at
+  unfolding groupCheck
+  passed-by e = rw e
+
+  module _ {end : ℕ} {gs : Bytes} (q : end ≡ endOf d i at) (p : gs ≡ part i at end) {n : ℕ} (h : n ≡ first (headerRules d (split (d .element) gs))) where
+    header-read : split (d .element) gs ≡ group .header
+    unfolding groupStarting groupEnding
+    header-read = rw (p, q)
+
+    -- 9
+    pub header-refuses : (n ≡ 0 → ⊥) → groups.Refused n ≡ groupCheck d i at
+    header-refuses due = refused-by (here _ (h ∙ rw header-read) due ∙ sym (group-blocks d group)) due
+
+    module _ (z : n ≡ 0) where
+      -- past it, GS is there
+      pub header-within : at < length i
+      unfolding headerRules goodGS first split
+      header-within = go (ltb at (length i)) refl
+        where
+          go : (b : Bool) → ltb at (length i) ≡ b → at < length i
+          go true k = ltb-true at (length i) k
+          go false k =
+              let due : n ≡ 9 = h ∙ rw (p, part-past i at end (ltb-false at (length i) k)) in
+              absurd (omega arith)
+
+      starting : groupStarting d i at ≡ groupEnding d i at (bodyEnd d i (end + 1))
+      unfolding groupStarting
+      starting = rw (q, lt-ltb at (length i) header-within)
+
+      body-read : bodyFrom d i (end + 1) ≡ group .body
+      unfolding groupStarting groupEnding
+      body-read = rw (q, lt-ltb at (length i) header-within)
+
+      module _ {m : ℕ} (a : m ≡ first (answerRules (split (d .element) gs))) where
+        -- 10
+        pub answer-refuses : (m ≡ 0 → ⊥) → groups.Refused m ≡ groupCheck d i at
+        answer-refuses due = refused-by (onward _ (h ∙ rw header-read) z (here _ (a ∙ rw header-read) due) ∙ sym (group-blocks d group)) due
+
+        module _ (y : m ≡ 0) where
+          group-by : {k : ℕ} → k ≡ first (setRules d (bodyFrom d i (end + 1))) → k ≡ first (groupRules d group)
+          group-by s =
+              onward _ (h ∙ rw header-read) z (onward _ (a ∙ rw header-read) y (only (s ∙ rw body-read))) ∙ sym (group-blocks d group)
+
+          -- 11 to 13
+          pub sets-refuse : {k : ℕ} → setsChecked d i (end + 1) ≡ checks.Refused k → groups.Refused k ≡ groupCheck d i at
+          sets-refuse s = let due = sets-refused d i (end + 1) s in refused-by (group-by (due .0)) (due .1)
+
+          -- none
+          pub none-refuses : {to : ℕ} {g : GroupAt} → setsChecked d i (end + 1) ≡ checks.Sound to → g ≡ groupEnding d i at to → groups.Sound g ≡ groupCheck d i at
+          none-refuses s e =
+              let sound = sets-sound d i (end + 1) s in
+              ap groups.Sound (e ∙ ap (groupEnding d i at) (sound .1) ∙ sym starting) ∙ passed-by (sym (group-by (sym (sound .0))))
+
+  -- what the check says of a group that was found
+  module _ {g : GroupAt} (f : nextGroup d i at ≡ Found g) where
+    abbrev due : ℕ
+    due = first (groupRules d (groupAt d i g))
+
+    pub group-sound : {h : GroupAt} → groupCheck d i at ≡ groups.Sound h → (h ≡ g) × (first (groupRules d (groupAt d i g)) ≡ 0)
+    unfolding groupCheck
+    group-sound {h} e = go (eqb due 0) refl
+      where
+        go : (b : Bool) → eqb due 0 ≡ b → (h ≡ g) × (due ≡ 0)
+        go true p = (cc (rw (found-starts d i at f, p) at e), eqb-true due 0 p)
+        go false p = let z = rw (found-starts d i at f, p) at e in let z : _≡_ {A = ℕ} 0 1 = cc in absurd (omega arith)
+
+    pub group-refused : {n : ℕ} → groupCheck d i at ≡ groups.Refused n → (n ≡ first (groupRules d (groupAt d i g))) × (n ≡ 0 → ⊥)
+    unfolding groupCheck
+    group-refused {n} e = go (eqb due 0) refl
+      where
+        go : (b : Bool) → eqb due 0 ≡ b → (n ≡ due) × (n ≡ 0 → ⊥)
+        go true p = let z = rw (found-starts d i at f, p) at e in let z : _≡_ {A = ℕ} 0 1 = cc in absurd (omega arith)
+        go false p = let q : n ≡ due = cc (rw (found-starts d i at f, p) at e) in (q, λ z. eqb-false due 0 p (sym q ∙ z))
+
+-- 5. The stages of the refusals 1 to 13.
 -- no fault goes without a refusal
 fault-refused : (x : EnvelopeFault) → faultRefusal x ≡ 0 → ⊥
 fault-refused NotTerminated z = omega arith
@@ -237,92 +303,47 @@ fault-refused OtherControl z = omega arith
 fault-refused OtherCount z = omega arith
 
 module _ (i : Bytes) (call : Call) where
-  -- the stages: the call and ISA, the envelope, the group
+  -- the call and ISA, the envelope, the groups
   staged : let d = delimiters i in
       refusal i call
       ≡ firstOf (
       first (callRules call ++ headRules i)
       ∷ (checkBy 6 7 8 8 8 (envelopeCheck d i)
-      ∷ (first (groupRules d (groupOf (segments d i)))
+      ∷ (first (groupsRules d (groupsOf (segments d i)))
       ∷ [])))
   unfolding refusal refusalRules callRules headRules endRules envelopeRules trailerRules
   staged =
       let d = delimiters i in
       let ss = segments d i in
       block (callRules call ++ headRules i) _ _ tt refl
-      (block (endRules d i ++ envelopeRules ss ++ trailerRules (last [] ss) 1 (field (isa i) 13)) _ _ tt (check-refusal d i) (only refl))
+      (block (endRules d i ++ envelopeRules mostGroups ss ++ trailerRules (last [] ss) (length (groupsOf ss)) (field (isa i) 13)) _ _ tt (check-refusal d i) (only refl))
 
-  -- 1 to 5
-  pub head-refuses : {n : ℕ} → headChecked i call ≡ isas.Refused n → Refused n ≡ checked i call
-  unfolding checked
-  head-refuses e = let due = head-refused i call e in unless-refused _ _ (here _ (due .0) (due .1) ∙ sym staged) (due .1)
+  -- 1 to 5. Shut out: a later stage that decides before them.
+  pub head-decides : {n : ℕ} → headChecked i call ≡ isas.Refused n → (n ≡ refusal i call) × (n ≡ 0 → ⊥)
+  head-decides e = let due = head-refused i call e in (here _ (due .0) (due .1) ∙ sym staged, due .1)
 
   module _ {d : Delimiters} (s : headChecked i call ≡ isas.Sound d) where
-    -- past them, the envelope and the group decide
-    past-head : {n : ℕ} → n ≡ firstOf (checkBy 6 7 8 8 8 (envelopeCheck d i) ∷ (first (groupRules d (groupOf (segments d i))) ∷ []))
+    -- past them, the envelope and the groups decide
+    past-head : {n : ℕ} → n ≡ firstOf (checkBy 6 7 8 8 8 (envelopeCheck d i) ∷ (first (groupsRules d (groupsOf (segments d i))) ∷ []))
         → n ≡ refusal i call
     past-head q = let sound = head-sound i call s in onward _ refl (sound .0) (q ∙ rw (sound .1)) ∙ sym staged
 
     -- 6 to 8
-    pub envelope-refuses : {x : EnvelopeFault} {n : ℕ} → envelopeCheck d i ≡ envelopes.Faulty x → n ≡ faultRefusal x → Refused n ≡ checked i call
-    unfolding checked
-    envelope-refuses {x} {n} e p =
-        let due : n ≡ 0 → ⊥ = λ z. fault-refused x (sym p ∙ z) in
-        unless-refused _ _ (past-head (here _ (p ∙ rw e) due)) due
+    pub envelope-decides : {x : EnvelopeFault} → envelopeCheck d i ≡ envelopes.Faulty x → (faultRefusal x ≡ refusal i call) × (faultRefusal x ≡ 0 → ⊥)
+    envelope-decides {x} e = (past-head (here _ (rw e) (fault-refused x)), fault-refused x)
 
-    module _ {v : Envelope} (e : envelopeCheck d i ≡ envelopes.Sound v) {n : ℕ} (p : n ≡ first (groupRules d (groupAt d i (v .group)))) where
-      -- past them, the group decides
-      group-decides : n ≡ refusal i call
-      group-decides = past-head (onward _ refl (rw e) (only (p ∙ rw (whole-is d i (check-sound d i e) .place .group))))
+    -- past them, the groups decide
+    pub groups-decide : {v : Envelope} → envelopeCheck d i ≡ envelopes.Sound v
+        → (d ≡ delimiters i) × (refusal i call ≡ first (groupsRules d (groupsOf (segments d i)))) × EnvelopeIs mostGroups d i v × (first (headRules i) ≡ 0)
+    groups-decide e = (
+      head-sound i call s .1,
+      sym (past-head (onward _ refl (rw e) (only refl))),
+      whole-is mostGroups d i (check-sound d i e),
+      isa-clear i call (head-sound i call s .0),
+    )
 
-      -- 9 to 13, or none
-      pub group-refuses : (n ≡ 0 → ⊥) → Refused n ≡ checked i call
-      unfolding checked
-      group-refuses h = unless-refused _ _ group-decides h
-
-      pub none-refuses : n ≡ 0 → Sound d v ≡ checked i call
-      unfolding checked
-      none-refuses z = rw (← head-sound i call s .1) (unless-sound d i (sym z ∙ group-decides) (check-sound d i e))
-
--- 6. What an answer of the checks says.
--- a sound answer has the envelope, and only a broken one is refused
-sound-whole : (w : Enveloped) {d d′ : Delimiters} {e : Envelope} → Sound d e ≡ soundIn d′ w → (d ≡ d′) × (w ≡ Whole e)
-sound-whole (Whole g) q = (cc, cc)
-sound-whole Broken q = let z : _≡_ {A = ℕ} 0 1 = cc in absurd (omega arith)
-
-refused-broken : (w : Enveloped) (d : Delimiters) {n : ℕ} → Refused n ≡ soundIn d w → w ≡ Broken
-refused-broken (Whole g) d q = let z : _≡_ {A = ℕ} 0 1 = cc in absurd (omega arith)
-refused-broken Broken d q = refl
-
--- An interchange without a refusal has these delimiters and this envelope.
-pub record SoundIs (i : Bytes) (call : Call) (d : Delimiters) (e : Envelope) : Type 0 where
-  pub clear : refusal i call ≡ 0
-  pub read : d ≡ delimiters i
-  pub envelope : EnvelopeIs d i e
-
-module _ (i : Bytes) (call : Call) where
-  -- no envelope is broken where there is no refusal
-  never-broken : refusal i call ≡ 0 → envelopeOf (delimiters i) i ≡ Broken → ⊥
-  never-broken e w =
-      let z : _≡_ {A = ℕ} 7 0 = sym (broken-refused (delimiters i) i w) ∙ unrefused i call e .envelope in
-      omega arith
-
-  -- sound: there is no refusal, and what was found is that of the interchange
-  pub sound-is : {d : Delimiters} {e : Envelope} → Sound d e ≡ checked i call → SoundIs i call d e
-  unfolding checked
-  sound-is {d} {e} q = go (eqb (refusal i call) 0) refl
-    where
-      go : (b : Bool) → eqb (refusal i call) 0 ≡ b → SoundIs i call d e
-      go true p =
-          let w = sound-whole _ (rw p at q) in
-          record { clear = eqb-true _ 0 p; read = w .0; envelope = rw (w .0) (whole-is (delimiters i) i (w .1)) }
-      go false p = let z = rw p at q in let z : _≡_ {A = ℕ} 0 1 = cc in absurd (omega arith)
-
-  -- refused: the number is that of the refusal
-  pub refused-due : {n : ℕ} → Refused n ≡ checked i call → (n ≡ refusal i call) × (n ≡ 0 → ⊥)
-  unfolding checked
-  refused-due {n} e = go (eqb (refusal i call) 0) refl
-    where
-      go : (b : Bool) → eqb (refusal i call) 0 ≡ b → (n ≡ refusal i call) × (n ≡ 0 → ⊥)
-      go true p = absurd (never-broken (eqb-true _ 0 p) (refused-broken _ _ (rw p at e)))
-      go false p = let q : n ≡ refusal i call = cc (rw p at e) in (q, λ z. eqb-false _ 0 p (sym q ∙ z))
+-- 9 to 13, one group after the other: the first group that has a refusal decides. Shut out: 9 in the second group before 13 in the first.
+pub groups-first : (d : Delimiters) (g : Group) (gs : List Group)
+    → first (groupsRules d (g ∷ gs)) ≡ orElse (first (groupRules d g)) (eqb (first (groupRules d g)) 0) (first (groupsRules d gs))
+unfolding groupsRules groupRules headerRules answerRules setRules
+groups-first d g gs = first-append (groupRules d g) (groupsRules d gs) tt

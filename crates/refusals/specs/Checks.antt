@@ -2,15 +2,17 @@
 use Prim.Native.Nat.{ℕ}
 use mathlib.Core.List.{[], _++_}
 use lib.Dec.{eqb}
+use lib.ListN.{length}
 use Rattle.rules.specs.Base.{Bytes, first, last, if_then_else_}
 use Rattle.rules.specs.Cutting.{field, isa, delimiters, split, segments}
-use Rattle.rules.specs.Refusals.{callRules, headRules, isTerminated, refusal}
+use Rattle.rules.specs.Groups.{groupsOf}
+use Rattle.rules.specs.Refusals.{callRules, headRules, isTerminated, mostGroups, groupRules}
 use Rattle.rules.specs.declared.Call.{Call}
 use Rattle.rules.specs.declared.Delimiters.{Delimiters}
 use Rattle.isa.specs.Delimited as delimited
 use Rattle.isa.specs.declared.Isa.{Isa}
 use Rattle.text.specs.Text.{part}
-use Rattle.envelope.specs.Places.{envelopeOf}
+use Rattle.envelope.specs.Places.{groupAt, groupStarting, envelopeOf}
 use Rattle.envelope.specs.Faults.{trailerFault}
 use Rattle.envelope.specs.declared.Envelope.{Envelope}
 use Rattle.envelope.specs.declared.Enveloped.{Enveloped}
@@ -21,8 +23,8 @@ use Rattle.refusals.specs.declared.EnvelopeFault.{EnvelopeFault}
 use Rattle.refusals.specs.declared.EnvelopeFault.the-variants.{NotTerminated, OutOfPlace, NotTwoElements, OtherControl, OtherCount}
 use Rattle.refusals.specs.declared.EnvelopeCheck.{EnvelopeCheck}
 use Rattle.refusals.specs.declared.EnvelopeCheck.the-variants as envelopes
-use Rattle.refusals.specs.declared.Checked.{Checked}
-use Rattle.refusals.specs.declared.Checked.the-variants.{Sound, Refused}
+use Rattle.refusals.specs.declared.GroupCheck.{GroupCheck}
+use Rattle.refusals.specs.declared.GroupCheck.the-variants as groups
 
 -- refusals 1 to 5: the delimiters of an interchange that they let pass
 unfoldable pub headChecked : Bytes → Call → Isa
@@ -60,21 +62,18 @@ placedBut Broken f = envelopes.Faulty OutOfPlace
 -- the tests of 8, of an interchange with this envelope
 unfoldable pub trailerCheck : Delimiters → Bytes → Envelope → EnvelopeCheck
 trailerCheck d i e =
-    soundBut e (trailerFault (split (d .element) (part i (e .iea) (e .«iea_end»))) 1 (field (isa i) 13))
+    soundBut e (trailerFault (split (d .element) (part i (e .iea) (e .«iea_end»))) (e .groups) (field (isa i) 13))
 
 -- the first of the tests of 6 to 8 that fails, or the envelope where none does
 unfoldable pub envelopeCheck : Delimiters → Bytes → EnvelopeCheck
 envelopeCheck d i =
-    if isTerminated d i then placedBut (envelopeOf d i) (trailerFault (last [] (segments d i)) 1 (field (isa i) 13))
+    let ss = segments d i in
+    if isTerminated d i then placedBut (envelopeOf mostGroups d i) (trailerFault (last [] ss) (length (groupsOf ss)) (field (isa i) 13))
     else envelopes.Faulty NotTerminated
 
-abbrev pub soundIn : Delimiters → Enveloped → Checked
-soundIn d (Whole e) = Sound d e
-soundIn d Broken = Refused 7
-
--- the refusal, or the delimiters and the envelope where there is none
-abbrev pub soundUnless : ℕ → Delimiters → Bytes → Checked
-soundUnless n d i = if eqb n 0 then soundIn d (envelopeOf d i) else Refused n
-
-unfoldable pub checked : Bytes → Call → Checked
-checked i call = soundUnless (refusal i call) (delimiters i) i
+-- the group whose GS starts at an offset, or its refusal by 9 to 13
+unfoldable pub groupCheck : Delimiters → Bytes → ℕ → GroupCheck
+groupCheck d i at =
+    let g = groupStarting d i at in
+    let n = first (groupRules d (groupAt d i g)) in
+    if eqb n 0 then groups.Sound g else groups.Refused n

@@ -1,9 +1,6 @@
-// The refusals before the response: by the call and ISA, by the envelope, by the group, and all of them in their order.
+// The refusals before the response, in stages: by the call and ISA, by the envelope, and by each group.
 ghost use mathlib.Core.Path.{_≡_};
-ghost use Rattle.rules.specs.Base.{first};
-ghost use Rattle.rules.specs.Refusals.{groupRules};
-ghost use Rattle.envelope.specs.Places.{groupAt};
-ghost use Rattle.refusals.specs.Checks.{faultRefusal, headChecked, trailerCheck, envelopeCheck, checked};
+ghost use Rattle.refusals.specs.Checks.{faultRefusal, headChecked, trailerCheck, envelopeCheck, groupCheck};
 use envelope::Envelope;
 use envelope::Enveloped;
 use envelope::GroupAt;
@@ -11,9 +8,8 @@ use envelope::TrailerFault;
 use isa::Isa;
 use rules::Call;
 use rules::Delimiters;
-
-// The groups of an interchange.
-const GROUPS: u64 = 1;
+use rules::Interchange;
+use sets::SetsCheck;
 
 // What is wrong with the envelope of an interchange: its end (6), the places of its segments (7), or one of the three tests of IEA (8).
 pub enum EnvelopeFault {
@@ -45,9 +41,9 @@ pub enum EnvelopeCheck {
     Faulty(EnvelopeFault),
 }
 
-// What the checks come to: the delimiters and the envelope of an interchange that can be answered, or the number of the refusal.
-pub enum Checked {
-    Sound(Delimiters, Envelope),
+// What the tests of 9 to 13 come to: a group that passes them, or the number of the refusal.
+pub enum GroupCheck {
+    Sound(GroupAt),
     Refused(u8),
 }
 
@@ -67,7 +63,7 @@ fn check_trailer(i: &[u8], d: Delimiters, envelope: Envelope) -> EnvelopeCheck
     ensures { λ r. ⌜ r ≡ trailerCheck d (now (i .entry)) envelope ⌝ }
 {
     let iea = text::part(i, envelope.iea, envelope.iea_end);
-    match envelope::trailer_fault(iea, GROUPS, isa::isa_field(i, 13), d) {
+    match envelope::trailer_fault(iea, envelope.groups, isa::isa_field(i, 13), d) {
         TrailerFault::None => EnvelopeCheck::Sound(envelope),
         TrailerFault::NotTwoElements => EnvelopeCheck::Faulty(EnvelopeFault::NotTwoElements),
         TrailerFault::OtherControl => EnvelopeCheck::Faulty(EnvelopeFault::OtherControl),
@@ -82,43 +78,30 @@ pub fn check_envelope(i: &[u8], d: Delimiters) -> EnvelopeCheck
     if !isa::is_terminated(i, d) {
         return EnvelopeCheck::Faulty(EnvelopeFault::NotTerminated);
     }
-    match envelope::envelope_of(i, d) {
+    match envelope::envelope_of(i, d, Interchange::MOST_GROUPS) {
         Enveloped::Whole(envelope) => check_trailer(i, d, envelope),
         Enveloped::Broken => EnvelopeCheck::Faulty(EnvelopeFault::OutOfPlace),
     }
 }
 
-// Refusals 9 to 13, of the group at a place.
-pub fn group_refusal(i: &[u8], d: Delimiters, group: GroupAt) -> u8
-    ensures { λ r. ⌜ r ≡ first (groupRules d (groupAt d (now (i .entry)) group)) ⌝ }
+// Refusals 9 to 13 of the group whose GS starts at `at`. The walk over its sets finds the end of its body too.
+pub fn check_group(i: &[u8], d: Delimiters, at: usize) -> GroupCheck
+    ensures { λ r. ⌜ r ≡ groupCheck d (now (i .entry)) at ⌝ }
 {
-    let gs = text::part(i, group.gs, group.gs_end);
+    let gs_end = text::find(i, at, d.terminator);
+    let gs = text::part(i, at, gs_end);
     let n = group_header::header_refusal(gs, d);
     if n != 0 {
-        return n;
+        return GroupCheck::Refused(n);
     }
     let n = group_header::answer_refusal(gs, d);
     if n != 0 {
-        return n;
+        return GroupCheck::Refused(n);
     }
-    sets::set_refusal(text::part(i, group.body, group.body_end), d)
-}
-
-// Refusals 1 to 13, the first that applies.
-pub fn check(i: &[u8], call: Call) -> Checked
-    ensures { λ r. ⌜ r ≡ checked (now (i .entry)) call ⌝ }
-{
-    match check_head(i, call) {
-        Isa::Sound(d) => match check_envelope(i, d) {
-            EnvelopeCheck::Sound(envelope) => {
-                let n = group_refusal(i, d, envelope.group);
-                if n != 0 {
-                    return Checked::Refused(n);
-                }
-                Checked::Sound(d, envelope)
-            }
-            EnvelopeCheck::Faulty(fault) => Checked::Refused(fault.refusal()),
-        },
-        Isa::Refused(n) => Checked::Refused(n),
+    match sets::check_sets(i, d, gs_end + 1) {
+        SetsCheck::Sound(body_end) => {
+            GroupCheck::Sound(envelope::group_ending(i, d, at, body_end))
+        }
+        SetsCheck::Refused(n) => GroupCheck::Refused(n),
     }
 }

@@ -39,40 +39,40 @@ unfolding bitsAt
 bits-below c i = mod-lt _ (omega arith)
 
 -- 2. The search.
-module _ (d : Delimiters) (body : Bytes) (starts links : List ℕ) (c : Bytes) where
+module _ (d : Delimiters) (body : Bytes) (first : ℕ) (starts links : List ℕ) (c : Bytes) where
   -- the link at the slot leads on or not, as p says, and the set that it leads to has the number, as q says
   pub walk-turn : (f slot last i : ℕ) (p q : Bool) → leb (getD links slot 0) last ≡ p
-      → same c (controlAt d body (getD starts (getD links slot 0 - 1) 0)) ≡ q
-      → walk (suc f) d body starts links c slot last i
-      ≡ foundAt p q slot (walk f d body starts links c (slotOf (getD links slot 0 - 1) (bitsAt c i)) (getD links slot 0) (i + 1))
+      → same c (controlAt d body (getD starts (getD links slot 0 - 1 - first) 0)) ≡ q
+      → walk (suc f) d body first starts links c slot last i
+      ≡ foundAt p q slot (walk f d body first starts links c (slotOf (getD links slot 0 - 1) (bitsAt c i)) (getD links slot 0) (i + 1))
   unfolding walk
   walk-turn f slot last i p q e g = rw (e, g)
 
   -- a link that leads nowhere
-  pub walk-ends : (f slot last i : ℕ) → getD links slot 0 ≤ last → walk f d body starts links c slot last i ≡ Free slot
+  pub walk-ends : (f slot last i : ℕ) → getD links slot 0 ≤ last → walk f d body first starts links c slot last i ≡ Free slot
   unfolding walk
   walk-ends zero slot last i h = refl
   walk-ends (suc f) slot last i h = rw (le-leb (getD links slot 0) last h)
 
   -- what holds in each of the three cases holds
   pub walk-cases : (P : Found → Type 0) (f slot last i : ℕ) → (getD links slot 0 ≤ last → P (Free slot))
-      → (last < getD links slot 0 → same c (controlAt d body (getD starts (getD links slot 0 - 1) 0)) ≡ true → P Repeated)
-      → (last < getD links slot 0 → same c (controlAt d body (getD starts (getD links slot 0 - 1) 0)) ≡ false
-      → P (walk f d body starts links c (slotOf (getD links slot 0 - 1) (bitsAt c i)) (getD links slot 0) (i + 1)))
-      → P (walk (suc f) d body starts links c slot last i)
+      → (last < getD links slot 0 → same c (controlAt d body (getD starts (getD links slot 0 - 1 - first) 0)) ≡ true → P Repeated)
+      → (last < getD links slot 0 → same c (controlAt d body (getD starts (getD links slot 0 - 1 - first) 0)) ≡ false
+      → P (walk f d body first starts links c (slotOf (getD links slot 0 - 1) (bitsAt c i)) (getD links slot 0) (i + 1)))
+      → P (walk (suc f) d body first starts links c slot last i)
   walk-cases P f slot last i ends hits goes = go _ _ refl refl
     where
-      go : (p q : Bool) → leb (getD links slot 0) last ≡ p → same c (controlAt d body (getD starts (getD links slot 0 - 1) 0)) ≡ q
-          → P (walk (suc f) d body starts links c slot last i)
+      go : (p q : Bool) → leb (getD links slot 0) last ≡ p → same c (controlAt d body (getD starts (getD links slot 0 - 1 - first) 0)) ≡ q
+          → P (walk (suc f) d body first starts links c slot last i)
       go true q e g = rw (walk-turn f slot last i true q e g) (ends (leb-true (getD links slot 0) last e))
       go false true e g = rw (walk-turn f slot last i false true e g) (hits (leb-false (getD links slot 0) last e) g)
       go false false e g = rw (walk-turn f slot last i false false e g) (goes (leb-false (getD links slot 0) last e) g)
 
   -- from what the calls of a turn ensure
   pub search-step : (slot : ℕ) {link last i bit start : ℕ} {earlier : Bytes} (q : Bool) → link < 65536 → i ≤ last → last < link
-      → link ≡ getD links slot 0 → bit ≡ bitsAt c i → start ≡ getD starts (link - 1) 0 → earlier ≡ controlAt d body start → same c earlier ≡ q
-      → walk (65536 - i) d body starts links c slot last i
-      ≡ foundAt false q slot (walk (65536 - (i + 1)) d body starts links c (slotOf (link - 1) bit) link (i + 1))
+      → link ≡ getD links slot 0 → bit ≡ bitsAt c i → start ≡ getD starts (link - 1 - first) 0 → earlier ≡ controlAt d body start → same c earlier ≡ q
+      → walk (65536 - i) d body first starts links c slot last i
+      ≡ foundAt false q slot (walk (65536 - (i + 1)) d body first starts links c (slotOf (link - 1) bit) link (i + 1))
   search-step slot {link} {last} {i} q h k l n b s e g =
       let left : 65536 - i ≡ suc (65536 - (i + 1)) = omega arith in
       rw (left, b, n) (walk-turn (65536 - (i + 1)) slot last i false q (lt-leb (getD links slot 0) last (rw n at l)) (rw (e, s, n) at g))

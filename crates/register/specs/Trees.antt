@@ -1,4 +1,5 @@
 -- Control numbers in buckets. The sets of a bucket are a tree: from each set four links lead to sets after it, and the next two bits of the number that is looked for tell which to take.
+-- The sets of a group are numbered from first on, and starts has their places.
 use Prim.Native.Nat.{ℕ, zero, suc, _+_, _*_, _/_, _%_, _^_, _-_}
 use mathlib.Core.Bool.{Bool, true, false}
 use mathlib.Core.List.{List, [], _∷_}
@@ -33,16 +34,16 @@ foundAt false true slot r = Repeated
 foundAt false false slot r = r
 
 -- What is found from a slot on by pairs i and up. A link is one past the set that it leads to; it leads nowhere where that is no set after the last one, so the search ends whatever the links are.
-unfoldable pub walk : ℕ → Delimiters → Bytes → List ℕ → List ℕ → Bytes → ℕ → ℕ → ℕ → Found
-walk zero d body starts links c slot last i = Free slot
-walk (suc f) d body starts links c slot last i =
+unfoldable pub walk : ℕ → Delimiters → Bytes → ℕ → List ℕ → List ℕ → Bytes → ℕ → ℕ → ℕ → Found
+walk zero d body first starts links c slot last i = Free slot
+walk (suc f) d body first starts links c slot last i =
     let link = getD links slot 0 in
-    let r = walk f d body starts links c (slotOf (link - 1) (bitsAt c i)) link (i + 1) in
-    foundAt (leb link last) (same c (controlAt d body (getD starts (link - 1) 0))) slot r
+    let r = walk f d body first starts links c (slotOf (link - 1) (bitsAt c i)) link (i + 1) in
+    foundAt (leb link last) (same c (controlAt d body (getD starts (link - 1 - first) 0))) slot r
 
--- what is found from the bucket of a control number on; that many steps are enough, since a link has 16 bits
-unfoldable pub search : Delimiters → Bytes → List ℕ → List ℕ → Bytes → Found
-search d body starts links c = walk 65536 d body starts links c (bucketOf c) 0 0
+-- what is found from the bucket of a control number on, where a link to a set before the first leads nowhere; that many steps are enough, since a link has 16 bits
+unfoldable pub search : Delimiters → Bytes → ℕ → List ℕ → List ℕ → Bytes → Found
+search d body first starts links c = walk 65536 d body first starts links c (bucketOf c) first 0
 
 abbrev pub isRepeated : Found → Bool
 isRepeated Repeated = true

@@ -1,4 +1,5 @@
-// The control numbers of a group's sets in buckets, each a tree, so that a number used twice is looked for among few.
+// The control numbers of a group's sets in buckets, each a tree, so that a number used twice is looked for among few. Sets are numbered through
+// the groups of an interchange: a link to a set of an earlier group counts as none, so that the links need not be cleared for each group.
 ghost use mathlib.Core.Path.{_≡_};
 ghost use Prim.Native.Nat.{ℕ, suc, _+_, _≤_};
 ghost use lib.ListN.{length, getD, drop};
@@ -73,13 +74,21 @@ pub fn field_end(body: &[u8], d: Delimiters, at: usize) -> usize
     i
 }
 
-// Looks for a set with the ST02 `control`, in the tree of its bucket: from each set its next two bits lead to one of four after it.
-pub fn search(body: &[u8], d: Delimiters, starts: &[u16], links: &[u16], control: &[u8]) -> Found
-    ensures { λ r. ⌜ r ≡ trees.search d (now (body .entry)) (now (starts .entry)) (now (links .entry)) (now (control .entry)) ⌝ }
+// Looks for a set with the ST02 `control`, in the tree of its bucket: from each set its next two bits lead to one of four after it. The sets of
+// the group are numbered from `first` on.
+pub fn search(
+    body: &[u8],
+    d: Delimiters,
+    first: usize,
+    starts: &[u16],
+    links: &[u16],
+    control: &[u8],
+) -> Found
+    ensures { λ r. ⌜ r ≡ trees.search d (now (body .entry)) first (now (starts .entry)) (now (links .entry)) (now (control .entry)) ⌝ }
 {
     let mut found = Found::Repeated;
     let mut slot = bucket_of(control);
-    let mut last = 0;
+    let mut last = first;
     let mut i = 0;
     'sets: loop {
         let link = link_at(links, slot);
@@ -88,7 +97,7 @@ pub fn search(body: &[u8], d: Delimiters, starts: &[u16], links: &[u16], control
             break 'sets;
         }
         let k = link - 1;
-        let start = control_start(body, d, start_at(starts, k));
+        let start = control_start(body, d, start_at(starts, k - first));
         slot = BUCKETS + 4 * k + bits_at(control, i);
         last = link;
         i += 1;
@@ -132,7 +141,7 @@ fn link_at(links: &[u16], slot: usize) -> usize
     0
 }
 
-// Where set k starts; 0 past the end.
+// Where set k of the group starts; 0 past the end.
 fn start_at(starts: &[u16], k: usize) -> usize
     ensures { λ r. ⌜ r ≡ getD (now (starts .entry)) k 0 ⌝ }
 {

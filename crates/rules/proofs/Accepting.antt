@@ -35,7 +35,7 @@ none-given rs = (there rs, back rs)
     back ((true ⇒ n) ∷ rs) s = absurd (true≢false (s .0))
     back ((false ⇒ n) ∷ rs) s = back rs (s .1)
 
-same-refl : (a : Bytes) → same a a ≡ true
+pub same-refl : (a : Bytes) → same a a ≡ true
 unfolding same
 same-refl [] = refl
 same-refl (x ∷ a) = rw (eq-eqb x x refl, same-refl a)

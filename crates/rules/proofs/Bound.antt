@@ -8,14 +8,15 @@ use native.Mathlib.Omega.{arith}
 use lib.Dec.{leb, ltb, eqb}
 use lib.ListN.{length, take, drop, getD, length-append}
 use borrow.Author.Tests.{leb-true}
-use Rattle.rules.specs.Base.{Bytes, Rule, _⇒_, every, null, all, keep, front, last, isNone, listed, isUpperOrDigit, ascii, same, if_then_else_}
+use Rattle.rules.specs.Base.{Bytes, Rule, _⇒_, every, null, all, keep, push, front, last, isNone, listed, isUpperOrDigit, ascii, same, if_then_else_}
 use Rattle.rules.specs.Cutting.{Segment, field, delimiters, cutAt, split, pieces, segments}
+use Rattle.rules.specs.Numbers.{padded}
 use Rattle.rules.specs.Tables.{Row, Syntax, Entry, Table, editionTable, setTable, table006010, table004010, stRows, stRows6, seRows, b1Rows, l11Rows, k1Rows}
 use Rattle.rules.specs.Elements.{elementCode, placeCodes, Finding, found, findingsFrom, findings}
 use Rattle.rules.specs.Segments.{Note, Present, Standing, unknown, unlisted, before, again, later, noEntry, entryAt, standing, ownCode, moved, findingsBy, skipped, missing, echoed, noted, segmentNote, walk, notesOf}
 use Rattle.rules.specs.Sets.{Set, isST, isSE, bodyOf, trailerOf, setsOf, controlOf, notesIn, setCodes, setReport}
-use Rattle.rules.specs.Groups.{Group, isGE, groupWith, groupOf, supported, edition, tableIn, setReports, groupCodes, verdict, acceptedIn, groupReport}
-use Rattle.rules.specs.Response.{fieldsOut, segmentOut, out, ak3s, block, blocks, stOut, seOut, told, transactionSet, geOut, ieaOut, respond, response}
+use Rattle.rules.specs.Groups.{Group, isGE, groupWith, cutAfterGE, groupsOf, supported, edition, tableIn, setReports, groupCodes, verdict, acceptedIn, groupReport}
+use Rattle.rules.specs.Response.{fieldsOut, segmentOut, out, ak3s, block, blocks, stOut, seOut, told, transactionSet, transactionSets, geOut, ieaOut, firstHeader, respond, response}
 use Rattle.rules.specs.declared.Call.{Call}
 use Rattle.rules.specs.declared.Delimiters.{Delimiters}
 use Rattle.rules.proofs.Echo.{echo-short}
@@ -281,26 +282,68 @@ module _ (d : Delimiters) where
       pick false (p ∷ ps) h =
           simp (out-cons d) (omega (arith, longer (split (d .element) p), out-cons d (split (d .element) p) (cut ps)))
 
+  header-short : (gs : Bytes) → length (segmentOut d (split (d .element) gs)) ≤ 2 * length gs + 1
+  unfolding split fieldsOut
+  header-short [] = omega arith
+  header-short (b ∷ gs) = omega (arith, cutAt-short (eqb b (d .element)) b (split (d .element) gs), header-short gs)
+
   front-size : (ss : List Segment) → size (front ss) ≤ size ss
   unfolding front out
   front-size [] = omega arith
   front-size (s ∷ []) = omega arith
   front-size (s ∷ (r ∷ ss)) = simp (out-cons d) (omega (arith, front-size (r ∷ ss), out-cons d r ss))
 
-  -- the second segment, and those after it
-  second-size : (ss : List Segment) → length (segmentOut d (getD ss 1 [])) + size (drop 2 ss) ≤ size ss
-  unfolding out
-  second-size [] = omega arith
-  second-size (s ∷ []) = omega arith
-  second-size (s ∷ (r ∷ ss)) = simp (out-cons d) (omega arith)
+  -- The pieces of an interchange, each by its first segment and those after it: together they have no more than the interchange.
+  unfoldable piecesSize : List (List Segment) → ℕ
+  piecesSize [] = 0
+  piecesSize (p ∷ ps) = size (getD p 0 [] ∷ drop 1 p) + piecesSize ps
 
-  group-size : (ss : List Segment) → length (segmentOut d (groupOf ss .header)) + size (groupOf ss .body) ≤ size ss
-  unfolding groupOf groupWith
-  group-size ss =
-      let inner = front (drop 2 ss) in
-      either (λ (g : Group). length (segmentOut d (g .header)) + size (g .body) ≤ size ss) (isGE (last [] inner))
-      (omega (arith, second-size ss, front-size (drop 2 ss), front-size inner))
-      (omega (arith, second-size ss, front-size (drop 2 ss)))
+  piece-size : (p : List Segment) → size p ≤ size (getD p 0 [] ∷ drop 1 p)
+  unfolding out
+  piece-size [] = omega arith
+  piece-size (s ∷ ss) = omega arith
+
+  push-size : (s : Segment) (ps : List (List Segment)) → piecesSize (push s ps) ≤ size (s ∷ []) + piecesSize ps
+  unfolding piecesSize
+  push-size s [] = omega arith
+  push-size s (p ∷ ps) = omega (arith, piece-size p, out-cons d s p, out-cons d s [], out-nil d)
+
+  cut-size : (ss : List Segment) → piecesSize (cutAfterGE ss) ≤ size ss
+  unfolding cutAfterGE piecesSize
+  cut-size [] = omega arith
+  cut-size (s ∷ ss) =
+      simp (out-cons d)
+      (either (λ (ps : List (List Segment)). piecesSize ps ≤ suc (length ss) + (length (segmentOut d s) + length (out d ss))) (isGE s)
+      (omega (arith, cut-size ss, out-cons d s [], out-nil d))
+      (omega (arith, cut-size ss, push-size s (cutAfterGE ss), out-cons d s [], out-nil d)))
+
+  -- the groups of an interchange, each by its GS and its body
+  unfoldable groupsSize : List Group → ℕ
+  groupsSize [] = 0
+  groupsSize (g ∷ gs) = size (g .header ∷ g .body) + groupsSize gs
+
+  group-size : (gs : Segment) (inner : List Segment) → size (groupWith gs inner .header ∷ groupWith gs inner .body) ≤ size (gs ∷ inner)
+  unfolding groupWith
+  group-size gs inner =
+      either (λ (g : Group). size (g .header ∷ g .body) ≤ size (gs ∷ inner)) (isGE (last [] inner))
+      (simp (out-cons d) (omega (arith, front-size inner)))
+      (omega arith)
+
+  grouped-size : (ps : List (List Segment)) → groupsSize (map (λ piece. groupWith (getD piece 0 []) (drop 1 piece)) ps) ≤ piecesSize ps
+  unfolding groupsSize piecesSize
+  grouped-size [] = omega arith
+  grouped-size (p ∷ ps) = omega (arith, group-size (getD p 0 []) (drop 1 p), grouped-size ps)
+
+  rest-size : (ss : List Segment) → size (drop 1 ss) ≤ size ss
+  unfolding out
+  rest-size [] = omega arith
+  rest-size (s ∷ ss) = simp (out-cons d) (omega arith)
+
+  groups-size : (ss : List Segment) → groupsSize (groupsOf ss) ≤ size ss
+  unfolding groupsOf
+  groups-size ss =
+      let inner = front (drop 1 ss) in
+      omega (arith, grouped-size (cutAfterGE inner), cut-size inner, front-size (drop 1 ss), rest-size ss)
 
   -- 6. The response.
   verdict-short : (codes : List ℕ) (received ok : ℕ) → length (verdict codes received ok) ≤ 1
@@ -337,19 +380,51 @@ module _ (d : Delimiters) where
       simp (length-out-append d, out-cons d, out-nil d, length-append)
       (omega (arith, told-short st02 g, decimal-short (length (told st02 (groupReport d g)) + 1)))
 
+  -- a group has a segment at least, which pays for what its 997 has besides the blocks
+  transactionSets-short : (n : ℕ) (gs : List Group) → length (out d (transactionSets n (map (groupReport d) gs))) ≤ perSet * groupsSize gs
+  unfolding transactionSets groupsSize out
+  transactionSets-short n [] = omega arith
+  transactionSets-short n (g ∷ gs) =
+      simp (length-out-append d, out-cons d)
+      (omega (
+        arith,
+        transactionSet-short (padded 4 n) g,
+        padded-length 4 n,
+        transactionSets-short (n + 1) gs,
+      ))
+
+  firstHeader-short : (gs : List Group) → length (segmentOut d (firstHeader gs)) ≤ groupsSize gs
+  unfolding groupsSize
+  firstHeader-short [] = omega arith
+  firstHeader-short (g ∷ gs) = simp (out-cons d) (omega arith)
+
 pub response-bound : (i : Bytes) (call : Call) → length i ≤ 65536 → length (response i call) < 4398046511104
 unfolding response respond geOut ieaOut fieldsOut
 response-bound i call h =
     let d = delimiters i in
-    let g = groupOf (segments d i) in
+    let gs = groupsOf (segments d i) in
     simp (length-out-append d, out-cons d, out-nil d, length-append, padded-length)
     (omega (
       arith,
       isaOut-short d i call,
-      gsOut-short d (g .header) call,
-      transactionSet-short d (ascii "0001") g,
-      group-size d (segments d i),
+      gsOut-short d (firstHeader gs) call,
+      firstHeader-short d gs,
+      transactionSets-short d 1 gs,
+      groups-size d (segments d i),
       segments-size d i,
+      decimal-short (length gs),
       decimal-short 1,
       decimal-short (call .control),
     ))
+
+-- One 997, by the bytes of its group: GS and the body.
+pub transaction-bound : (d : Delimiters) (n : ℕ) (gs body : Bytes) (ge : Option Segment) → length gs ≤ 65536 → length body ≤ 65536
+    → length (out d (transactionSet (padded 4 n) (groupReport d (record { header = split (d .element) gs; body = segments d body; trailer = ge })))) < 4398046511104
+transaction-bound d n gs body ge h k =
+    omega (
+      arith,
+      transactionSet-short d (padded 4 n) (record { header = split (d .element) gs; body = segments d body; trailer = ge }),
+      padded-length 4 n,
+      header-short d gs,
+      segments-size d body,
+    )

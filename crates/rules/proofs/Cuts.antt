@@ -5,8 +5,8 @@ use mathlib.Core.List.{List, [], _∷_, _++_, map, append-nil, append-assoc}
 use Prim.Native.Nat.{ℕ}
 use borrow.Author.Tests.{not-true, eq-eqb, eqb-true, eqb-false}
 use lib.Dec.{eqb}
-use Rattle.rules.specs.Base.{Bytes, all, null, last}
-use Rattle.rules.specs.Cutting.{Segment, push, cutAt, pieces, split, segments}
+use Rattle.rules.specs.Base.{Bytes, all, null, push, last}
+use Rattle.rules.specs.Cutting.{Segment, cutAt, pieces, split, segments}
 use Rattle.rules.specs.Response.{fieldsOut, segmentOut, out}
 use Rattle.rules.specs.Damage.{free, isWhole}
 use Rattle.rules.specs.declared.Delimiters.{Delimiters}

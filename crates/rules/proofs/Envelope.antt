@@ -1,27 +1,28 @@
 -- Laws of the envelope: what is read of ISA lies in its 106 bytes, and an interchange that is not refused has the parts that it should.
 use mathlib.Core.Path.{_≡_, refl, sym, _∙_, ap}
 use mathlib.Core.Bool.{Bool, true, false, _&&_, _||_, not, false≢true}
-use mathlib.Core.List.{List, [], _∷_, _++_, append-nil, append-assoc}
-use mathlib.Core.Option.{Option}
+use mathlib.Core.List.{List, [], _∷_, _++_, map, append-nil, append-assoc}
+use mathlib.Core.Option.{none, some}
 use Prim.Native.Nat.{ℕ, suc, _+_, _≤_, _<_}
 use native.Mathlib.Omega.{arith}
 use native.Mathlib.Numerals.{add-one}
 use borrow.Author.Tests.{not-true, not-false, eqb-true, leb-true, ltb-true}
-use lib.Dec.{eqb, ltb, leb, lit<, lit≤}
+use lib.Dec.{T, eqb, ltb, leb, lit<, lit≤}
 use lib.ListN.{length, take, drop, getD, take-append-drop, length-take}
 use lib.Seq.{slice, slice-empty, split-at, take-suc, getD-take, take-take, drop-append-le}
-use Rattle.rules.specs.Base.{Bytes, ascii, same, member, between, all, any, front, last, listed, first}
+use Rattle.rules.specs.Base.{Bytes, Rule, ascii, same, member, between, all, any, front, last, first}
 use Rattle.rules.specs.Cutting.{Segment, field, isNamed, delimiters, marks, separators, valid, fieldsAt, isa, segments, split}
 use Rattle.rules.specs.Numbers.{digits}
-use Rattle.rules.specs.Sets.{Set, outside}
-use Rattle.rules.specs.Groups.{groupOf, groupWith, isGE, sets}
-use Rattle.rules.specs.Refusals.{callRules, hasISA, plain, distinct, goodMarks, goodISA, headRules, endRules, enveloped, envelopeRules, trailerRules, headerRules, answerRules, setRules, groupRules, refusalRules, refusal}
-use Rattle.rules.specs.Damage.{flat, free}
+use Rattle.rules.specs.Groups.{Group, groupsOf, cutAfterGE, isGE, sets}
+use Rattle.rules.specs.Refusals.{goodCall, callRules, hasISA, isWholeGroup, plain, distinct, goodMarks, goodISA, headRules, endRules, enveloped, mostGroups, envelopeRules, hasTwo, closes, countsGroups, trailerRules, headerRules, answerRules, setRules, groupRules, groupsRules, refusalRules, refusal}
+use Rattle.rules.specs.Damage.{flat, groupsIn, flatGroups, free}
 use Rattle.rules.specs.declared.Call.{Call}
 use Rattle.rules.specs.declared.Delimiters.{Delimiters}
-use Rattle.rules.proofs.Logic.{and-left, and-right, or-left, or-right, all-head, all-tail, all-cons, all-append, all-weaken, same→eq, front-last, front-snoc, last-snoc, last-all, silent}
+use Rattle.rules.proofs.Logic.{and-left, and-right, or-left, or-right, all-head, all-tail, all-cons, all-append, all-weaken, same→eq, front-last, front-snoc, last-snoc, numbered, first-append-none, Silent, silent, Each}
 use Rattle.rules.proofs.Cuts.{pieces-step}
-use Rattle.rules.proofs.SetLaws.{isOuter, Optional, missing, there, Sets, sets-cut, flat-sets, outer-flat}
+use Rattle.rules.proofs.Facts.{groups-numbers}
+use Rattle.rules.proofs.GroupLaws.{isOpen, groupFrom, cut-closed, cut-open, group-closed, group-open, Chain, no-group, open-group, closed-group, cut-groups}
+use Rattle.rules.proofs.SetLaws.{isOuter, Sets, sets-cut, flat-sets}
 
 -- 1. What is read of ISA lies in its 106 bytes.
 separators-low : all (λ a. ltb a 106) separators ≡ true
@@ -138,38 +139,84 @@ marks-differ d e =
     let second = and-left (not (ct || false)) (not false && true) (and-right (not (ec || (et || false))) (not (ct || false) && (not false && true)) e) in
     (or-left et false (or-right ec (et || false) first), or-left ct false (not-true (ct || false) second))
 
--- none of the refusals 1 to 13
-pub record Clear (i : Bytes) (call : Call) : Type 0 where
-  pub numbers : first (callRules call) ≡ 0
-  pub header : Header i
-  pub envelope : enveloped (segments (delimiters i) i) ≡ true
-  pub sets : outside (groupOf (segments (delimiters i) i) .body) ≡ false
+-- the rules 1 to 8
+abbrev pub toEight : Bytes → Call → List Rule
+toEight i call =
+    let d = delimiters i in
+    let ss = segments d i in
+    callRules call ++ headRules i ++ endRules d i
+    ++ envelopeRules mostGroups ss ++ trailerRules (last [] ss) (length (groupsOf ss)) (field (isa i) 13)
 
-pub clear : (i : Bytes) (call : Call) → refusal i call ≡ 0 → Clear i call
-unfolding refusal refusalRules callRules headRules endRules envelopeRules trailerRules groupRules headerRules answerRules setRules hasISA goodMarks goodISA first
-clear i call e =
+-- none of the refusals 1 to 8
+pub record Passed (i : Bytes) (call : Call) : Type 0 where
+  pub numbers : goodCall call ≡ true
+  pub header : Header i
+  pub opened : hasISA i ≡ true
+  pub marked : goodMarks (marks (delimiters i)) ≡ true
+  pub headed : goodISA (delimiters i) (isa i) ≡ true
+  pub envelope : enveloped mostGroups (segments (delimiters i) i) ≡ true
+  pub two : hasTwo (last [] (segments (delimiters i) i)) ≡ true
+  pub closed : closes (last [] (segments (delimiters i) i)) (field (isa i) 13) ≡ true
+  pub counted : countsGroups (length (groupsIn i)) (last [] (segments (delimiters i) i)) ≡ true
+
+pub passed : (i : Bytes) (call : Call) → first (toEight i call) ≡ 0 → Passed i call
+unfolding callRules headRules endRules envelopeRules trailerRules hasISA goodMarks goodISA
+passed i call e =
     let d = delimiters i in
     let n = length i in
-    let r = silent (refusalRules i call) tt e in
+    let r = silent (toEight i call) tt e in
     let sized = not-false (between 106 65536 n) (r .1 .0) in
-    let differ = marks-differ d (and-left (distinct (marks d)) (all plain (marks d)) (not-false (goodMarks (marks d)) (r .1 .1 .1 .0))) in
+    let opened = not-false (hasISA i) (r .1 .1 .0) in
+    let marked = not-false (goodMarks (marks d)) (r .1 .1 .1 .0) in
+    let headed = not-false (goodISA d (isa i)) (r .1 .1 .1 .1 .0) in
+    let differ = marks-differ d (and-left (distinct (marks d)) (all plain (marks d)) marked) in
     let v = all (all (valid d)) (isa i) in
     let nine = digits 9 9 (field (isa i) 13) in
     let pti = member (field (isa i) 15) (ascii "P" ∷ ascii "T" ∷ ascii "I" ∷ []) in
     record {
-      numbers = rw (r .0);
+      numbers = not-false (goodCall call) (r .0);
       header = record {
         long = leb-true 106 n (and-left (leb 106 n) (leb n 65536) sized);
         short = leb-true n 65536 (and-right (leb 106 n) (leb n 65536) sized);
-        separated = and-right (same (take 3 i) (ascii "ISA")) (all (λ at. eqb (getD i at 0) (getD i 3 0)) separators) (not-false (hasISA i) (r .1 .1 .0));
-        fields = and-left v nine (and-left (v && nine) pti (not-false (goodISA d (isa i)) (r .1 .1 .1 .1 .0)));
+        separated = and-right (same (take 3 i) (ascii "ISA")) (all (λ at. eqb (getD i at 0) (getD i 3 0)) separators) opened;
+        fields = and-left v nine (and-left (v && nine) pti headed);
         element≢ = differ .0;
         component≢ = differ .1;
         ends = eqb-true (last 0 i) (d .terminator) (not-false (eqb (last 0 i) (d .terminator)) (r .1 .1 .1 .1 .1 .0));
       };
-      envelope = not-false (enveloped (segments d i)) (r .1 .1 .1 .1 .1 .1 .0);
-      sets = r .1 .1 .1 .1 .1 .1 .1 .1 .1 .1 .1 .1 .0;
+      opened = opened;
+      marked = marked;
+      headed = headed;
+      envelope = not-false _ (r .1 .1 .1 .1 .1 .1 .0);
+      two = not-false _ (r .1 .1 .1 .1 .1 .1 .1 .0);
+      closed = not-false _ (r .1 .1 .1 .1 .1 .1 .1 .1 .0);
+      counted = not-false _ (r .1 .1 .1 .1 .1 .1 .1 .1 .1 .0);
     }
+
+-- none of the refusals 1 to 13
+pub record Clear (i : Bytes) (call : Call) : Type 0 where
+  pub passed : Passed i call
+  pub groups : Each (λ g. first (groupRules (delimiters i) g) ≡ 0) (groupsIn i)
+
+-- where no rule of the groups applies, each group has no refusal
+groups-silent : (d : Delimiters) (gs : List Group) → Silent (groupsRules d gs) → Each (λ g. first (groupRules d g) ≡ 0) gs
+unfolding groupsRules groupRules headerRules answerRules setRules Each first
+groups-silent d [] r = tt
+groups-silent d (g ∷ gs) r =
+    (rw (r .0, r .1 .0, r .1 .1 .0, r .1 .1 .1 .0, r .1 .1 .1 .1 .0), groups-silent d gs (r .1 .1 .1 .1 .1))
+
+-- no rule of 1 to 8 gives 0
+pub eight-numbers : (i : Bytes) (call : Call) → T (numbered (toEight i call))
+unfolding callRules headRules endRules envelopeRules trailerRules
+eight-numbers i call = tt
+
+pub clear : (i : Bytes) (call : Call) → refusal i call ≡ 0 → Clear i call
+unfolding refusal refusalRules
+clear i call e =
+    let d = delimiters i in
+    let gs = groupsIn i in
+    let none = first-append-none (toEight i call) (groupsRules d gs) (eight-numbers i call) e in
+    record { passed = passed i call (none .0); groups = groups-silent d gs (silent (groupsRules d gs) (groups-numbers d gs) (none .1)) }
 
 -- 3. The first segment is ISA: 105 bytes, and the terminator is byte 105.
 terminator-free : (i : Bytes) (s t : ℕ) (es : List ℕ) → eqb s t ≡ false → all (λ e. eqb (getD i e 0) s) es ≡ true
@@ -216,78 +263,127 @@ module _ (i : Bytes) (h : Header i) where
       ap (segments (delimiters i)) (sym (take-append-drop 106 i)) ∙ first-cut (drop 106 i)
       ∙ ap (λ (s : Segment). s ∷ segments (delimiters i) (drop 106 i)) (sym first-segment)
 
--- 4. ISA, GS, the group's segments, GE or nothing, and IEA.
-group-parts : (gs : Segment) (xs : List Segment) (b : Bool) → isGE (last [] xs) ≡ b
-    → (groupWith gs xs .header ≡ gs) × (groupWith gs xs .body ++ listed (groupWith gs xs .trailer) ≡ xs) × Optional isGE (groupWith gs xs .trailer)
-unfolding groupWith same last
-group-parts gs xs false p = rw p (refl, append-nil xs, missing)
-group-parts gs [] true p = absurd (false≢true p)
-group-parts gs (x ∷ xs) true p = rw p (refl, front-last [] x xs, there p)
+-- 4. ISA, the groups one after the other, and IEA.
+-- Segments are pieces that end with GE, and then a piece without GE or nothing.
+data Cut : List Segment → Type 0 where
+  no-piece : Cut []
+  open-piece : (x : Segment) (xs : List Segment) → all isOpen (x ∷ xs) ≡ true → Cut (x ∷ xs)
+  closed-piece : (xs : List Segment) (ge : Segment) (rest : List Segment) → all isOpen xs ≡ true → isGE ge ≡ true → Cut rest → Cut (xs ++ ge ∷ rest)
 
-pub record Parts (ss : List Segment) : Type 0 where
-  pub whole : ss ≡ getD ss 0 [] ∷ groupOf ss .header ∷ (groupOf ss .body ++ (listed (groupOf ss .trailer) ++ last [] ss ∷ []))
-  pub closed : Optional isGE (groupOf ss .trailer)
+-- one segment more in front
+cut-one : (s : Segment) {ss : List Segment} (b : Bool) → isGE s ≡ b → Cut ss → Cut (s ∷ ss)
+unfolding all
+cut-one s {ss} true p c = closed-piece [] s ss refl p c
+cut-one s false p no-piece = open-piece s [] (rw p)
+cut-one s false p (open-piece x xs o) = open-piece s (x ∷ xs) (all-cons isOpen s (x ∷ xs) (rw p) o)
+cut-one s false p (closed-piece xs ge rest o e c) = closed-piece (s ∷ xs) ge rest (all-cons isOpen s xs (rw p) o) e c
 
-GS-IEA : (s : Segment) → isNamed (ascii "GS") s ≡ true → isNamed (ascii "IEA") s ≡ true → ⊥
+cut-all : (ss : List Segment) → Cut ss
+cut-all [] = no-piece
+cut-all (s ∷ ss) = cut-one s (isGE s) refl (cut-all ss)
+
+-- the groups of the pieces
+abbrev groupsFrom : List Segment → List Group
+groupsFrom ss = map groupFrom (cutAfterGE ss)
+
+-- one after the other, they are the segments again
+flat-from : {ss : List Segment} → Cut ss → flatGroups (groupsFrom ss) ≡ ss
+unfolding cutAfterGE flatGroups all
+flat-from no-piece = refl
+flat-from (open-piece x xs o) = rw (cut-open x xs o, group-open x xs (all-tail isOpen x xs o)) (ap (λ (l : List Segment). x ∷ l) (append-nil xs))
+flat-from (closed-piece [] ge rest o e c) = rw (cut-closed [] ge rest refl e, group-open ge [] refl, flat-from c)
+flat-from (closed-piece (x ∷ xs) ge rest o e c) = rw (cut-closed (x ∷ xs) ge rest o e, group-closed x xs ge e, flat-from c)
+
+-- GS is not GE
+pub GS-open : (s : Segment) → isNamed (ascii "GS") s ≡ true → isGE s ≡ false
 unfolding same
-GS-IEA s p q = false≢true (rw (same→eq (field s 0) (ascii "GS") p) at q)
+GS-open s p = rw (same→eq (field s 0) (ascii "GS") p)
 
-parts : (ss : List Segment) → isNamed (ascii "GS") (getD ss 1 []) ≡ true → isNamed (ascii "IEA") (last [] ss) ≡ true → Parts ss
-unfolding groupOf same last
-parts [] p q = absurd (false≢true p)
-parts (a ∷ []) p q = absurd (false≢true p)
-parts (a ∷ (b ∷ [])) p q = absurd (GS-IEA b p q)
-parts (a ∷ (b ∷ (c ∷ cs))) p q =
-    let xs = front (c ∷ cs) in
-    let g = group-parts b xs (isGE (last [] xs)) refl in
+-- where they are whole, only the last may lack its GE
+chain-from : {ss : List Segment} → Cut ss → all isWholeGroup (groupsFrom ss) ≡ true → Chain (groupsFrom ss)
+unfolding cutAfterGE
+chain-from no-piece w = no-group
+chain-from (open-piece x xs o) w =
+    rw (cut-open x xs o, group-open x xs (all-tail isOpen x xs o))
+    (open-group (all-head isOpen x xs o) (all-tail isOpen x xs o))
+chain-from (closed-piece [] ge rest o e c) w =
+    let g : Group = record { header = ge; body = []; trailer = none } in
+    let whole = all-head isWholeGroup g (groupsFrom rest) (rw (cut-closed [] ge rest o e, group-open ge [] o) at w) in
+    absurd (false≢true (sym (GS-open ge (and-left (isNamed (ascii "GS") ge) (all isOuter []) whole)) ∙ e))
+chain-from (closed-piece (x ∷ xs) ge rest o e c) w =
+    let g : Group = record { header = x; body = xs; trailer = some ge } in
+    let whole = all-tail isWholeGroup g (groupsFrom rest) (rw (cut-closed (x ∷ xs) ge rest o e, group-closed x xs ge e) at w) in
+    rw (cut-closed (x ∷ xs) ge rest o e, group-closed x xs ge e)
+    (closed-group (all-head isOpen x xs o) (all-tail isOpen x xs o) e (chain-from c whole))
+
+-- a first segment, groups of which only the last may lack its GE, and a last segment
+pub record Parts (ss : List Segment) : Type 0 where
+  pub whole : ss ≡ getD ss 0 [] ∷ (flatGroups (groupsOf ss) ++ last [] ss ∷ [])
+  pub chain : Chain (groupsOf ss)
+
+parts : (limit : ℕ) (ss : List Segment) → between 1 limit (length (groupsOf ss)) ≡ true → all isWholeGroup (groupsOf ss) ≡ true → Parts ss
+unfolding groupsOf front cutAfterGE last
+parts limit [] n w = absurd (false≢true n)
+parts limit (a ∷ []) n w = absurd (false≢true n)
+parts limit (a ∷ (b ∷ cs)) n w =
+    let c = cut-all (front (b ∷ cs)) in
     record {
-      whole =
-          rw (g .0, ← append-assoc (groupWith b xs .body) (listed (groupWith b xs .trailer)) (last c cs ∷ []), g .1)
-          (ap (λ (l : List Segment). a ∷ (b ∷ l)) (sym (front-last b c cs)));
-      closed = g .2;
+      whole = ap (λ (l : List Segment). a ∷ l) (sym (front-last a b cs) ∙ ap (λ (l : List Segment). l ++ last b cs ∷ []) (sym (flat-from c)));
+      chain = chain-from c w;
     }
 
--- what an interchange that is not refused is made of
-pub record Answered (i : Bytes) : Type 0 where
-  pub parts : Parts (segments (delimiters i) i)
-  pub body : groupOf (segments (delimiters i) i) .body ≡ flat (sets (groupOf (segments (delimiters i) i)))
-  pub cut : Sets (sets (groupOf (segments (delimiters i) i)))
-
-pub made : (i : Bytes) (call : Call) → Clear i call → Answered i
+-- an interchange that passes 1 to 8 has whole groups
+pub passed-whole : (i : Bytes) (call : Call) → Passed i call → all isWholeGroup (groupsIn i) ≡ true
 unfolding enveloped
-made i call c =
+passed-whole i call p =
     let ss = segments (delimiters i) i in
-    let g = groupOf ss in
-    let gs = isNamed (ascii "GS") (getD ss 1 []) in
     let iea = isNamed (ascii "IEA") (last [] ss) in
-    let named = and-left (gs && iea) (all isOuter (g .body)) (c .envelope) in
+    let counted = between 1 mostGroups (length (groupsOf ss)) in
+    and-right (iea && counted) (all isWholeGroup (groupsOf ss)) (p .envelope)
+
+-- and it has these parts
+pub passed-parts : (i : Bytes) (call : Call) → Passed i call → Parts (segments (delimiters i) i)
+unfolding enveloped
+passed-parts i call p =
+    let ss = segments (delimiters i) i in
+    let iea = isNamed (ascii "IEA") (last [] ss) in
+    let counted = between 1 mostGroups (length (groupsOf ss)) in
+    parts mostGroups ss (and-right iea counted (and-left (iea && counted) (all isWholeGroup (groupsOf ss)) (p .envelope))) (passed-whole i call p)
+
+-- a group of an interchange that is not refused: its segments are its sets, one after the other
+pub record Made (g : Group) : Type 0 where
+  pub body : g .body ≡ flat (sets g)
+  pub cut : Sets (sets g)
+
+group-made : (d : Delimiters) (g : Group) → isWholeGroup g ≡ true → first (groupRules d g) ≡ 0 → Made g
+unfolding groupRules headerRules answerRules setRules
+group-made d g w e =
+    let gs = isNamed (ascii "GS") (g .header) in
+    let r = silent (groupRules d g) tt e in
     record {
-      parts = parts ss (and-left gs iea named) (and-right gs iea named);
-      body = sym (flat-sets (g .body) (c .sets));
-      cut = sets-cut (g .body) (and-right (gs && iea) (all isOuter (g .body)) (c .envelope));
+      body = sym (flat-sets (g .body) (r .1 .1 .0));
+      cut = sets-cut (g .body) (and-right gs (all isOuter (g .body)) w);
     }
 
--- 5. The other way: sets between ISA, GS and GE, IEA are the group of these segments.
-pub outer-GE : (s : Segment) → isOuter s ≡ true → isGE s ≡ false
-unfolding same any
-outer-GE s e = go (isGE s) refl
-  where
-    go : (b : Bool) → isGE s ≡ b → isGE s ≡ false
-    go false q = q
-    go true q = absurd (false≢true (rw (same→eq (field s 0) (ascii "GE") q) at e))
+groups-made : (d : Delimiters) (gs : List Group) → all isWholeGroup gs ≡ true → Each (λ g. first (groupRules d g) ≡ 0) gs → Each Made gs
+unfolding Each
+groups-made d [] w e = tt
+groups-made d (g ∷ gs) w e =
+    (group-made d g (all-head isWholeGroup g gs w) (e .0), groups-made d gs (all-tail isWholeGroup g gs w) (e .1))
 
-module _ (isa gs iea : Segment) where
-  abbrev pub around : List Set → Option Segment → List Segment
-  around ss ge = isa ∷ gs ∷ (flat ss ++ (listed ge ++ iea ∷ []))
+-- an interchange that is not refused has such groups
+pub made : (i : Bytes) (call : Call) → Clear i call → Each Made (groupsIn i)
+made i call c = groups-made (delimiters i) (groupsIn i) (passed-whole i call (c .passed)) (c .groups)
 
-  pub group-around : {ss : List Set} {ge : Option Segment} → Sets ss → Optional isGE ge
-      → groupOf (around ss ge) ≡ record { header = gs; body = flat ss; trailer = ge }
-  unfolding groupOf groupWith same any
-  group-around {ss} ws missing =
-      rw (front-snoc (flat ss) iea, outer-GE (last [] (flat ss)) (last-all isOuter [] (flat ss) refl (outer-flat ws)))
-  group-around {ss} ws (there {s} e) =
-      rw (← append-assoc (flat ss) (s ∷ []) (iea ∷ []), front-snoc (flat ss ++ s ∷ []) iea, last-snoc [] (flat ss) s, e, front-snoc (flat ss) s)
+-- 5. The other way: groups between ISA and IEA are the groups of these segments.
+module _ (isa iea : Segment) where
+  abbrev pub around : List Group → List Segment
+  around gs = isa ∷ (flatGroups gs ++ iea ∷ [])
 
-  pub last-around : (ss : List Set) (ge : Option Segment) → last [] (around ss ge) ≡ iea
+  pub groups-around : {gs : List Group} → Chain gs → groupsOf (around gs) ≡ gs
+  unfolding groupsOf
+  groups-around {gs} c = rw (front-snoc (flatGroups gs) iea) (cut-groups c)
+
+  pub last-around : (gs : List Group) → last [] (around gs) ≡ iea
   unfolding last
-  last-around ss ge = rw (← append-assoc (flat ss) (listed ge) (iea ∷ [])) (last-snoc gs (flat ss ++ listed ge) iea)
+  last-around gs = last-snoc isa (flatGroups gs) iea

@@ -1,4 +1,4 @@
--- Envelopes on both sides of each line of change request 3: whole answers of TA1, computed.
+-- Envelopes on both sides of each line of change requests 3 and 6: whole answers of TA1, computed.
 use Prim.Native.String.{String}
 use mathlib.Core.Path.{_≡_, refl}
 use mathlib.Core.Bool.{Bool, true, _&&_}
@@ -30,6 +30,8 @@ envelopes =
     ("" gets "R*022") ∷
     ("IEA*1*000000042~" gets "R*022") ∷
     ("GS~GS~IEA*2*000000043~" gets "R*022") ∷
+    ("GS~GS~GE~IEA*2*000000042~" gets "R*022") ∷
+    ("GS~GE~ST~GS~GE~IEA*2*000000042~" gets "R*022") ∷
     -- 8: two elements come first
     ("GS~IEA*1*000000042*~" gets "R*022") ∷
     ("GS~IEA*2~" gets "R*022") ∷
@@ -39,6 +41,12 @@ envelopes =
     -- then IEA01
     ("GS~IEA*000001*000000042~" gets "R*021") ∷
     ("GS~IEA*2*000000042~" gets "R*021") ∷
+    -- two groups: IEA01 counts them
+    ("GS~GE~GS~GE~IEA*1*000000042~" gets "R*021") ∷
+    ("GS~GE~GS~GE~IEA*2*000000042~" gets "A*000") ∷
+    -- sixteen groups, and one too many
+    ("GS~GE~GS~GE~GS~GE~GS~GE~GS~GE~GS~GE~GS~GE~GS~GE~GS~GE~GS~GE~GS~GE~GS~GE~GS~GE~GS~GE~GS~GE~GS~GE~IEA*16*000000042~" gets "A*000") ∷
+    ("GS~GE~GS~GE~GS~GE~GS~GE~GS~GE~GS~GE~GS~GE~GS~GE~GS~GE~GS~GE~GS~GE~GS~GE~GS~GE~GS~GE~GS~GE~GS~GE~GS~IEA*17*000000042~" gets "R*022") ∷
     []
 
 -- the interchange of a row, and its whole response: ISA09 and ISA10 are no day and no hour, and go into TA1 as they are
@@ -56,7 +64,8 @@ unfoldable pub isRight : Row → Bool
 isRight e =
     eqb (interchangeRefusal (receivedAs e) sampleCall) 0 && same (interchangeResponse (receivedAs e) sampleCall) (sentAs e)
 
--- Every row holds. Shut out: IEA01 tested before IEA02, `IEA**` taken for an IEA without elements, ISA10 before ISA09, a TA1 that counts a group.
+-- Every row holds. Shut out: IEA01 tested before IEA02, `IEA**` taken for an IEA without elements, ISA10 before ISA09, a TA1 that counts a group, IEA01 compared
+-- with 1, a limit of 15 or 17 groups.
 pub all-right : all isRight envelopes ≡ true
 unfolding everything envelopes receivedAs sentAs isRight
 all-right = refl

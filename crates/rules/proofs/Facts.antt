@@ -4,7 +4,8 @@ use mathlib.Core.Bool.{Bool, true, false, _&&_, false≢true}
 use mathlib.Core.List.{List, [], _∷_, _++_, map, append-nil, append-assoc}
 use mathlib.Core.Option.{Option}
 use Prim.Native.Nat.{ℕ, suc, _+_, _≤_}
-use borrow.Author.Tests.{ne-eqb}
+use native.Mathlib.Omega.{arith}
+use borrow.Author.Tests.{ne-eqb, le-leb}
 use lib.Dec.{T, eqb}
 use lib.ListN.{length, length-append}
 use Rattle.rules.specs.Base.{Bytes, ascii, null, same, last, Rule, first, if_then_else_}
@@ -12,15 +13,15 @@ use Rattle.rules.specs.Cutting.{field, delimiters, isa, segments}
 use Rattle.rules.specs.Numbers.{decimal}
 use Rattle.rules.specs.Sets.{Set, controlOf, SetReport, accepted}
 use Rattle.rules.specs.Tables.{Table}
-use Rattle.rules.specs.Groups.{Group, groupOf, sets, tableIn, setReports, acceptedIn, GroupReport, groupReport}
-use Rattle.rules.specs.Refusals.{callRules, headRules, endRules, envelopeRules, trailerRules, headerRules, answerRules, setRules, groupRules, refusalRules, refusal}
+use Rattle.rules.specs.Groups.{Group, groupsOf, sets, tableIn, setReports, acceptedIn, GroupReport, groupReport}
+use Rattle.rules.specs.Refusals.{callRules, headRules, endRules, envelopeRules, trailerRules, headerRules, answerRules, setRules, groupRules, groupsRules, mostGroups, refusalRules, refusal}
 use Rattle.rules.specs.Response.{seOut, told, transactionSet}
 use Rattle.rules.specs.Answers.{Reply, fitting, answer, buffer, Allowed, outcome, called}
 use Rattle.rules.specs.declared.Call.{Call}
 use Rattle.rules.specs.declared.Answer.{Answer}
 use Rattle.rules.specs.declared.Answer.the-variants.{Refused}
 use Rattle.rules.specs.declared.Delimiters.{Delimiters}
-use Rattle.rules.proofs.Logic.{last-snoc, orElse, numbered, first-append, both-left, both-right, first-low}
+use Rattle.rules.proofs.Logic.{last-snoc, orElse, numbered, first-append, both-left, both-right, numberedIn, first-low}
 
 -- 1. What is allowed: a response where there is no refusal, and a refusal that leaves the buffer as it was. It has the outcome of the call, and two
 -- allowed outcomes coincide: the answer, and with it number and length, and every byte of the buffer.
@@ -85,9 +86,17 @@ segments-counted st02 g =
     rw (last-snoc [] (told st02 g) (seOut (length (told st02 g) + 1) st02), length-append (told st02 g) (seOut (length (told st02 g) + 1) st02 ∷ []))
 
 -- 5. A refusal number is at most 13.
+-- whatever the groups are, their rules have numbers from 9 to 13
+pub groups-numbered : (lo : ℕ) → lo ≤ 9 → (d : Delimiters) (gs : List Group) → numberedIn lo 13 (groupsRules d gs) ≡ true
+unfolding groupsRules groupRules headerRules answerRules setRules
+groups-numbered lo h d [] = refl
+groups-numbered lo h d (g ∷ gs) =
+    rw (le-leb lo 9 h, le-leb lo 10 (omega arith), le-leb lo 11 (omega arith), le-leb lo 12 (omega arith), le-leb lo 13 (omega arith))
+    (groups-numbered lo h d gs)
+
 pub refusal-low : (i : Bytes) (call : Call) → refusal i call ≤ 13
 unfolding refusal refusalRules callRules headRules endRules envelopeRules trailerRules groupRules headerRules answerRules setRules
-refusal-low i call = first-low 1 13 (refusalRules i call) refl
+refusal-low i call = first-low 1 13 (refusalRules i call) (groups-numbered 1 (omega arith) (delimiters i) (groupsOf (segments (delimiters i) i)))
 
 -- 6. The refusal is that of the first block of rules that has one.
 unfoldable pub firstOf : List ℕ → ℕ
@@ -110,6 +119,16 @@ first-in-order (rs ∷ rss) t =
     first-append rs (inOrder rss) (both-left (numbered rs) (allNumbered rss) t)
     ∙ ap (orElse (first rs) (eqb (first rs) 0)) (first-in-order rss (both-right (numbered rs) (allNumbered rss) t))
 
+-- no rule of a group gives 0
+pub groups-numbers : (d : Delimiters) (gs : List Group) → T (numbered (groupsRules d gs))
+unfolding groupsRules groupRules headerRules answerRules setRules
+groups-numbers d [] = tt
+groups-numbers d (g ∷ gs) = groups-numbers d gs
+
+alone : (a : Bool) → T a → T (a && true)
+alone true t = tt
+alone false t = t
+
 module _ (i : Bytes) (call : Call) where
   abbrev ruleBlocks : List (List Rule)
   ruleBlocks =
@@ -118,9 +137,9 @@ module _ (i : Bytes) (call : Call) where
       callRules call
       ∷ (headRules i
       ∷ (endRules d i
-      ∷ (envelopeRules ss
-      ∷ (trailerRules (last [] ss) 1 (field (isa i) 13)
-      ∷ (groupRules d (groupOf ss)
+      ∷ (envelopeRules mostGroups ss
+      ∷ (trailerRules (last [] ss) (length (groupsOf ss)) (field (isa i) 13)
+      ∷ (groupsRules d (groupsOf ss)
       ∷ [])))))
 
   rules-in-order : refusalRules i call ≡ inOrder ruleBlocks
@@ -128,8 +147,8 @@ module _ (i : Bytes) (call : Call) where
   rules-in-order = simp (append-assoc, append-nil)
 
   blocks-numbered : T (allNumbered ruleBlocks)
-  unfolding callRules headRules endRules envelopeRules trailerRules groupRules headerRules answerRules setRules
-  blocks-numbered = tt
+  unfolding callRules headRules endRules envelopeRules trailerRules
+  blocks-numbered = alone (numbered (groupsRules (delimiters i) (groupsOf (segments (delimiters i) i)))) (groups-numbers (delimiters i) (groupsOf (segments (delimiters i) i)))
 
 pub refusal-blocks : (i : Bytes) (call : Call)
     → let d = delimiters i in
@@ -139,9 +158,9 @@ pub refusal-blocks : (i : Bytes) (call : Call)
     first (callRules call)
     ∷ (first (headRules i)
     ∷ (first (endRules d i)
-    ∷ (first (envelopeRules ss)
-    ∷ (first (trailerRules (last [] ss) 1 (field (isa i) 13))
-    ∷ (first (groupRules d (groupOf ss))
+    ∷ (first (envelopeRules mostGroups ss)
+    ∷ (first (trailerRules (last [] ss) (length (groupsOf ss)) (field (isa i) 13))
+    ∷ (first (groupsRules d (groupsOf ss))
     ∷ []))))))
 unfolding refusal
 refusal-blocks i call =

@@ -10,16 +10,17 @@ use borrow.Author.Tests.{eqb-true, eqb-false, not-false, leb-true}
 use lib.Dec.{T, leb, eqb}
 use lib.ListN.{length, getD, length-append}
 use lib.Seq.{slice, slice-cons, slice-empty, length-slice, take-at, drop-at}
-use Rattle.rules.specs.Base.{Bytes, Rule, _⇒_, first, last, ascii, same, between, if_then_else_}
+use Rattle.rules.specs.Base.{Bytes, Rule, _⇒_, first, last, ascii, same, if_then_else_}
 use Rattle.rules.specs.Cutting.{Segment, field, separators, fieldsAt, delimiters, isa, segments}
 use Rattle.rules.specs.Numbers.{padded, digitsOf, decimal}
-use Rattle.rules.specs.Groups.{groupOf}
-use Rattle.rules.specs.Refusals.{goodCall, callRules, headRules, isTerminated, endRules, enveloped, envelopeRules, hasTwo, closes, countsGroups, trailerRules, headerRules, answerRules, setRules, groupRules, refusalRules, refusal}
+use Rattle.rules.specs.Groups.{groupsOf}
+use Rattle.rules.specs.Refusals.{goodCall, callRules, headRules, isTerminated, endRules, enveloped, mostGroups, envelopeRules, hasTwo, closes, countsGroups, trailerRules, groupsRules, refusalRules, refusal}
 use Rattle.rules.specs.Response.{fieldsOut, segmentOut, out, isaOut, ieaOut}
 use Rattle.rules.specs.InterchangeAcknowledgment.{noteCodeRules, Verdict, verdictBy, interchangeVerdict, asksForTA1, interchangeRules, interchangeRefusal, ta1, interchangeRespond, interchangeResponse}
 use Rattle.rules.specs.declared.Call.{Call}
 use Rattle.rules.specs.declared.Delimiters.{Delimiters}
 use Rattle.rules.proofs.Logic.{and-left, numbered, silent, first-append, first-in, first-low}
+use Rattle.rules.proofs.Facts.{groups-numbered}
 use Rattle.rules.proofs.Lengths.{padded-length}
 
 -- what stands between two places of a text
@@ -149,28 +150,31 @@ module _ (i : Bytes) where
   abbrev iea : Segment
   iea = last [] all-segments
 
+  abbrev groups : ℕ
+  groups = length (groupsOf all-segments)
+
   -- 6, 7 and 8 as a block
   abbrev pub verdictRules : List Rule
-  verdictRules = endRules (delimiters i) i ++ (envelopeRules all-segments ++ trailerRules iea 1 (field (isa i) 13))
+  verdictRules = endRules (delimiters i) i ++ (envelopeRules mostGroups all-segments ++ trailerRules iea groups (field (isa i) 13))
 
   -- A refusal of the interchange, 0 for none, and the verdict that stands for it, by the test that fails.
   pub data StandsFor : ℕ → Verdict → Type 0 where
     passed : StandsFor 0 acceptedVerdict
     not-terminated : isTerminated (delimiters i) i ≡ false → StandsFor 6 (rejectedFor (ascii "023"))
-    out-of-place : enveloped all-segments ≡ false → StandsFor 7 (rejectedFor (ascii "022"))
+    out-of-place : enveloped mostGroups all-segments ≡ false → StandsFor 7 (rejectedFor (ascii "022"))
     not-two : hasTwo iea ≡ false → StandsFor 8 (rejectedFor (ascii "022"))
     other-control : hasTwo iea ≡ true → closes iea (field (isa i) 13) ≡ false → StandsFor 8 (rejectedFor (ascii "001"))
-    other-count : hasTwo iea ≡ true → closes iea (field (isa i) 13) ≡ true → countsGroups 1 iea ≡ false
+    other-count : hasTwo iea ≡ true → closes iea (field (isa i) 13) ≡ true → countsGroups groups iea ≡ false
         → StandsFor 8 (rejectedFor (ascii "021"))
 
   stands : StandsFor (first verdictRules) (interchangeVerdict i)
   unfolding endRules envelopeRules trailerRules noteCodeRules interchangeVerdict first padded
   stands =
-      go (isTerminated (delimiters i) i) (enveloped all-segments) (hasTwo iea) (closes iea (field (isa i) 13)) (countsGroups 1 iea)
+      go (isTerminated (delimiters i) i) (enveloped mostGroups all-segments) (hasTwo iea) (closes iea (field (isa i) 13)) (countsGroups groups iea)
       refl refl refl refl refl
     where
-      go : (t e n c g : Bool) → isTerminated (delimiters i) i ≡ t → enveloped all-segments ≡ e → hasTwo iea ≡ n
-          → closes iea (field (isa i) 13) ≡ c → countsGroups 1 iea ≡ g
+      go : (t e n c g : Bool) → isTerminated (delimiters i) i ≡ t → enveloped mostGroups all-segments ≡ e → hasTwo iea ≡ n
+          → closes iea (field (isa i) 13) ≡ c → countsGroups groups iea ≡ g
           → StandsFor (first ((not t ⇒ 6) ∷ (not e ⇒ 7) ∷ (not n ⇒ 8) ∷ (not c ⇒ 8) ∷ (not g ⇒ 8) ∷ []))
           (verdictBy (first ((not t ⇒ 23) ∷ (not e ⇒ 22) ∷ (not n ⇒ 22) ∷ (not c ⇒ 1) ∷ (not g ⇒ 21) ∷ [])))
       go false e n c g pt pe pn pc pg = not-terminated pt
@@ -233,9 +237,9 @@ module _ (i : Bytes) (call : Call) where
   openingRules = callRules call ++ headRules i
 
   abbrev bodyRules : List Rule
-  bodyRules = groupRules (delimiters i) (groupOf (segments (delimiters i) i))
+  bodyRules = groupsRules (delimiters i) (groupsOf (segments (delimiters i) i))
 
-  -- Which stage of the 997 decides: 1 to 5; else 6, 7 or 8; else what lies in the group.
+  -- Which stage of the 997 decides: 1 to 5; else 6, 7 or 8; else what lies in the groups.
   data Decided : Type 0 where
     early : (first openingRules ≡ 0 → ⊥) → refusal i call ≡ first openingRules → refusal i call ≤ 5 → Decided
     envelope : first openingRules ≡ 0 → (first (verdictRules i) ≡ 0 → ⊥) → refusal i call ≡ first (verdictRules i) → Decided
@@ -246,8 +250,7 @@ module _ (i : Bytes) (call : Call) where
   opening-low = first-low 1 5 openingRules refl
 
   body-in : (first bodyRules ≡ 0) ⊎ ((9 ≤ first bodyRules) × (first bodyRules ≤ 13))
-  unfolding groupRules headerRules answerRules setRules
-  body-in = first-in 9 13 bodyRules refl
+  body-in = first-in 9 13 bodyRules (groups-numbered 9 (omega arith) (delimiters i) (groupsOf (segments (delimiters i) i)))
 
   opening-numbered : T (numbered openingRules)
   unfolding callRules headRules

@@ -1,6 +1,7 @@
 pub mod Logic
 pub mod Cuts
 pub mod SetLaws
+pub mod GroupLaws
 pub mod Envelope
 pub mod Damage
 pub mod Facts
@@ -17,3 +18,5 @@ pub mod Echo
 pub mod Placed
 pub mod InterchangeAcknowledgment
 pub mod Envelopes
+pub mod OneGroup
+pub mod Alone

@@ -1,12 +1,12 @@
 -- Laws of tests, lists and rules that hold whatever they are about.
-use mathlib.Core.Path.{_≡_, refl, ap, subst⁻¹}
+use mathlib.Core.Path.{_≡_, refl, sym, _∙_, ap, subst⁻¹}
 use mathlib.Core.Bool.{Bool, true, false, _&&_, _||_, not, false≢true, true≢false}
 use mathlib.Core.Logic.{_⊎_, inl, inr}
 use mathlib.Core.List.{List, [], _∷_, _++_, map}
 use Prim.Native.Nat.{ℕ, zero, suc, _≤_, _<_}
 use native.Mathlib.Nat.{not-suc-le-zero, le-of-suc-le-suc}
 use native.Mathlib.Omega.{arith}
-use borrow.Author.Tests.{eqb-true, leb-true}
+use borrow.Author.Tests.{eqb-true, eqb-false, leb-true}
 use lib.Dec.{T, T-not, leb, eqb}
 use lib.ListN.{length, getD, take}
 use Rattle.rules.specs.Base.{Bytes, same, all, any, front, last, between, Rule, _⇒_, first, every}
@@ -148,6 +148,14 @@ first-append ((true ⇒ n) ∷ rs) ss t = rw (nonzero n (both-left (not (eqb n 0
         go false e u = e
 first-append ((false ⇒ n) ∷ rs) ss t = first-append rs ss (both-right (not (eqb n 0)) (numbered rs) t)
 
+-- where that of both is 0, that of each is
+pub first-append-none : (rs ss : List Rule) → T (numbered rs) → first (rs ++ ss) ≡ 0 → (first rs ≡ 0) × (first ss ≡ 0)
+first-append-none rs ss t e = go (eqb (first rs) 0) refl (sym (first-append rs ss t) ∙ e)
+  where
+    go : (b : Bool) → eqb (first rs) 0 ≡ b → orElse (first rs) b (first ss) ≡ 0 → (first rs ≡ 0) × (first ss ≡ 0)
+    go true q e = (eqb-true (first rs) 0 q, e)
+    go false q e = absurd (eqb-false (first rs) 0 q e)
+
 -- no rule of the list applies
 abbrev pub Silent : List Rule → Type 0
 Silent [] = Unit {0}
@@ -200,6 +208,13 @@ pub each-map : {A B : Type 0} (P : B → Type 0) (f : A → B) (xs : List A) →
 unfolding Each
 each-map P f [] h = tt
 each-map P f (x ∷ xs) h = (h .0, each-map P f xs (h .1))
+
+-- it holds of the one at k
+pub each-at : {A : Type 0} (P : A → Type 0) (xs : List A) (k : ℕ) (w : A) → Each P xs → k < length xs → P (getD xs k w)
+unfolding Each
+each-at P [] k w e h = absurd (not-suc-le-zero h)
+each-at P (x ∷ xs) zero w e h = e .0
+each-at P (x ∷ xs) (suc k) w e h = each-at P xs k w (e .1) (le-of-suc-le-suc h)
 
 -- of each number that a rule may give
 abbrev pub Given : (ℕ → Type 0) → List Rule → Type 0

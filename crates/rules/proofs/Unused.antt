@@ -11,13 +11,13 @@ use lib.Dec.{leb, ltb, eqb}
 use lib.ListN.{length, getD}
 use Rattle.rules.specs.Base.{Bytes, Rule, _⇒_, first, every, null, all, any, ascii, same, member, keep}
 use Rattle.rules.specs.Cutting.{Segment, field, isNamed, delimiters}
-use Rattle.rules.specs.Numbers.{digitsOf, decimal}
+use Rattle.rules.specs.Numbers.{padded, digitsOf, decimal}
 use Rattle.rules.specs.Tables.{Row, Syntax, Entry, Table, stRows, stRows6, seRows, b1Rows, l11Rows, l11Notes, k1Rows, table006010, table004010, editionTable, setTable}
 use Rattle.rules.specs.Elements.{isTM, elementCode, excluded, shutsOut, placeCodes, Finding, found, findingsFrom, findings}
 use Rattle.rules.specs.Segments.{Note, Present, Standing, unknown, unlisted, before, again, later, noEntry, entryAt, standing, moved, findingsBy, missing, echoed, noted, segmentNote, walk, notesOf}
 use Rattle.rules.specs.Sets.{Set, controlOf, notesIn, SetReport, setReport}
 use Rattle.rules.specs.Groups.{Group, sets, supported, edition, tableIn, setReports, groupReport}
-use Rattle.rules.specs.Response.{ak4, ak3, ak3s, ak2, ak5, block, blocks, ak1, ak9, stOut, seOut, told, transactionSet, isaOut, gsOut, geOut, ieaOut, respond}
+use Rattle.rules.specs.Response.{ak4, ak3, ak3s, ak2, ak5, block, blocks, ak1, ak9, stOut, seOut, told, transactionSet, transactionSets, isaOut, gsOut, geOut, ieaOut, respond}
 use Rattle.rules.specs.declared.Call.{Call}
 use Rattle.rules.specs.declared.Delimiters.{Delimiters}
 use Rattle.rules.specs.declared.Relation.{Relation}
@@ -223,16 +223,27 @@ reports-spared d gs controls (s ∷ ss) =
     (block-spared r (notes-used d (tableIn gs s) s (table-plain gs s)))
     (reports-spared d gs (controlOf s ∷ controls) ss)
 
+module _ (d : Delimiters) where
+  set-spared : (st02 : Bytes) (g : Group) → all isSpared (transactionSet st02 (groupReport d g)) ≡ true
+  unfolding transactionSet told stOut ak1 ak9 seOut groupReport all same
+  set-spared st02 g =
+      let bs = blocks (setReports d (tableIn (g .header)) [] (sets g)) in
+      all-append isSpared (told st02 (groupReport d g)) (seOut (length (told st02 (groupReport d g)) + 1) st02 ∷ [])
+      (all-append isSpared bs (ak9 (groupReport d g) ∷ []) (reports-spared d (g .header) [] (sets g)) refl)
+      refl
+
+  sets-spared : (n : ℕ) (gs : List Group) → all isSpared (transactionSets n (map (groupReport d) gs)) ≡ true
+  unfolding transactionSets all
+  sets-spared n [] = refl
+  sets-spared n (g ∷ gs) =
+      all-append isSpared (transactionSet (padded 4 n) (groupReport d g)) (transactionSets (n + 1) (map (groupReport d) gs))
+      (set-spared (padded 4 n) g)
+      (sets-spared (n + 1) gs)
+
 -- No segment of a response is such an AK4. A program that tells of a bad date by 9, or of an element too many by 10, is shut out.
-pub respond-spared : (i : Bytes) (g : Group) (call : Call) → all isSpared (respond i g call) ≡ true
-unfolding respond isaOut gsOut transactionSet told stOut ak1 ak9 seOut geOut ieaOut groupReport all same
-respond-spared i g call =
-    let d = delimiters i in
-    let bs = blocks (setReports d (tableIn (g .header)) [] (sets g)) in
-    let nine = ak9 (groupReport d g) in
-    let st02 = ascii "0001" in
-    all-append isSpared (transactionSet st02 (groupReport d g)) (geOut 1 (call .control) ∷ ieaOut 1 (call .control) ∷ [])
-    (all-append isSpared (told st02 (groupReport d g)) (seOut (length (told st02 (groupReport d g)) + 1) st02 ∷ [])
-    (all-append isSpared bs (nine ∷ []) (reports-spared d (g .header) [] (sets g)) refl)
-    refl)
+pub respond-spared : (i : Bytes) (gs : List Group) (call : Call) → all isSpared (respond i gs call) ≡ true
+unfolding respond isaOut gsOut geOut ieaOut all same
+respond-spared i gs call =
+    all-append isSpared (transactionSets 1 (map (groupReport (delimiters i)) gs)) (geOut (length gs) (call .control) ∷ ieaOut 1 (call .control) ∷ [])
+    (sets-spared (delimiters i) 1 gs)
     refl

@@ -22,7 +22,7 @@ pub record Reply : Type 0 where
 abbrev pub Replies : Type 0
 Replies = Bytes → Call → Reply
 
--- of the group: the 997
+-- of the groups: a 997 for each
 abbrev pub functionalAcknowledgment : Replies
 functionalAcknowledgment i call = record { refusal = refusal i call; response = response i call }
 

@@ -62,6 +62,11 @@ module _ {ℓ} {A : Type ℓ} where
   keep p [] = []
   keep p (x ∷ xs) = let r = keep p xs in if p x then x ∷ r else r
 
+  -- x in front of the first list; a list of its own where there is none
+  abbrev pub push : A → List (List A) → List (List A)
+  push x [] = (x ∷ []) ∷ []
+  push x (p ∷ ps) = (x ∷ p) ∷ ps
+
   -- without the last
   unfoldable pub front : List A → List A
   front [] = []

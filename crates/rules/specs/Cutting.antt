@@ -5,7 +5,7 @@ use mathlib.Core.List.{List, [], _∷_, map}
 use lib.Dec.{eqb}
 use lib.ListN.{length, getD}
 use lib.Seq.{slice}
-use Rattle.rules.specs.Base.{Bytes, between, same, all, any}
+use Rattle.rules.specs.Base.{Bytes, between, same, all, any, push}
 use Rattle.rules.specs.declared.Delimiters.{Delimiters}
 
 -- where the sixteen separators of ISA stand
@@ -38,11 +38,6 @@ field s n = getD s n []
 
 abbrev pub isNamed : Bytes → Segment → Bool
 isNamed name s = same (field s 0) name
-
--- b in front of the first piece
-abbrev pub push : ℕ → List Bytes → List Bytes
-push b [] = (b ∷ []) ∷ []
-push b (p ∷ ps) = (b ∷ p) ∷ ps
 
 -- one byte in front of the pieces: it cuts, or it is the first byte of the first piece
 abbrev pub cutAt : Bool → ℕ → List Bytes → List Bytes

@@ -1,11 +1,11 @@
 -- "Verdicts", the group: its parts, and what is reported of it (AK1 and AK9).
 use Prim.Native.Nat.{ℕ}
 use mathlib.Core.Bool.{Bool, true, false, _||_, not}
-use mathlib.Core.List.{List, [], _∷_}
+use mathlib.Core.List.{List, [], _∷_, map}
 use mathlib.Core.Option.{Option, none, some}
 use lib.Dec.{eqb}
 use lib.ListN.{length, take, drop, getD}
-use Rattle.rules.specs.Base.{Bytes, Rule, _⇒_, every, null, isNone, holds, ascii, same, member, keep, front, last, if_then_else_}
+use Rattle.rules.specs.Base.{Bytes, Rule, _⇒_, every, null, isNone, holds, ascii, same, member, keep, push, front, last, if_then_else_}
 use Rattle.rules.specs.Cutting.{Segment, field, isNamed}
 use Rattle.rules.specs.Numbers.{declares}
 use Rattle.rules.specs.Tables.{Table, editionTable, setTable}
@@ -21,15 +21,20 @@ pub record Group : Type 0 where
 abbrev pub isGE : Segment → Bool
 isGE = isNamed (ascii "GE")
 
--- GS and what follows it up to IEA, of which the last may be GE
+-- GS and what follows it, of which the last may be GE
 unfoldable pub groupWith : Segment → List Segment → Group
 groupWith gs inner =
     if isGE (last [] inner) then record { header = gs; body = front inner; trailer = some (last [] inner) }
     else record { header = gs; body = inner; trailer = none }
 
--- the group of an interchange ISA, GS, .., IEA
-unfoldable pub groupOf : List Segment → Group
-groupOf ss = groupWith (getD ss 1 []) (front (drop 2 ss))
+-- segments cut after each GE; those after the last GE are a piece too
+unfoldable pub cutAfterGE : List Segment → List (List Segment)
+cutAfterGE [] = []
+cutAfterGE (s ∷ ss) = let r = cutAfterGE ss in if isGE s then (s ∷ []) ∷ r else push s r
+
+-- the groups of an interchange: the pieces between its first segment, ISA, and its last, IEA; check 7 asks of each whether it is a whole group
+unfoldable pub groupsOf : List Segment → List Group
+groupsOf ss = map (λ piece. groupWith (getD piece 0 []) (drop 1 piece)) (cutAfterGE (front (drop 1 ss)))
 
 abbrev pub sets : Group → List Set
 sets g = setsOf (g .body)

@@ -3,10 +3,12 @@ use Prim.Native.Nat.{ℕ}
 use mathlib.Core.Bool.{Bool, not}
 use mathlib.Core.List.{List, [], _∷_, _++_}
 use lib.Dec.{eqb}
+use lib.ListN.{length}
 use Rattle.rules.specs.Base.{Bytes, Rule, _⇒_, first, last, ascii, same, if_then_else_}
 use Rattle.rules.specs.Cutting.{Segment, field, delimiters, isa, segments}
 use Rattle.rules.specs.Numbers.{padded}
-use Rattle.rules.specs.Refusals.{callRules, headRules, isTerminated, enveloped, hasTwo, closes, countsGroups}
+use Rattle.rules.specs.Groups.{groupsOf}
+use Rattle.rules.specs.Refusals.{callRules, headRules, isTerminated, enveloped, mostGroups, hasTwo, closes, countsGroups}
 use Rattle.rules.specs.Response.{out, isaOut, ieaOut}
 use Rattle.rules.specs.declared.Call.{Call}
 
@@ -18,10 +20,10 @@ noteCodeRules i =
     let ss = segments d i in
     let iea = last [] ss in
     (not (isTerminated d i) ⇒ 23) ∷
-    (not (enveloped ss) ⇒ 22) ∷
+    (not (enveloped mostGroups ss) ⇒ 22) ∷
     (not (hasTwo iea) ⇒ 22) ∷
     (not (closes iea (field (isa i) 13)) ⇒ 1) ∷
-    (not (countsGroups 1 iea) ⇒ 21) ∷
+    (not (countsGroups (length (groupsOf ss)) iea) ⇒ 21) ∷
     []
 
 -- TA104, A or R, and TA105, the note code

@@ -8,7 +8,7 @@ use Rattle.rules.specs.Base.{Bytes, Rule, _⇒_, first, null, all, any, 
 use Rattle.rules.specs.Cutting.{Segment, field, isNamed, delimiters, marks, separators, valid, text, isa, segments}
 use Rattle.rules.specs.Numbers.{digits, declares, isDay, isDate, isTime}
 use Rattle.rules.specs.Sets.{setsOf, outside}
-use Rattle.rules.specs.Groups.{Group, groupOf}
+use Rattle.rules.specs.Groups.{Group, groupsOf}
 use Rattle.rules.specs.declared.Call.{Call}
 use Rattle.rules.specs.declared.Delimiters.{Delimiters}
 
@@ -58,17 +58,27 @@ isTerminated d i = eqb (last 0 i) (d .terminator)
 unfoldable pub endRules : Delimiters → Bytes → List Rule
 endRules d i = (not (isTerminated d i) ⇒ 6) ∷ []
 
--- 7: ISA, GS, GE and IEA stand first, second, next to last and last, and nowhere else
+-- a segment of the envelope
 abbrev pub isEnvelope : Segment → Bool
 isEnvelope s = member (field s 0) (ascii "ISA" ∷ ascii "GS" ∷ ascii "GE" ∷ ascii "IEA" ∷ [])
 
-unfoldable pub enveloped : List Segment → Bool
-enveloped ss =
-    isNamed (ascii "GS") (getD ss 1 []) && isNamed (ascii "IEA") (last [] ss)
-    && all (λ s. not (isEnvelope s)) (groupOf ss .body)
+-- A whole group begins with GS, and no segment of the envelope stands inside it. Its GE may be missing, but only the last piece that `cutAfterGE`
+-- makes can lack one.
+abbrev pub isWholeGroup : Group → Bool
+isWholeGroup g = isNamed (ascii "GS") (g .header) && all (λ s. not (isEnvelope s)) (g .body)
 
-unfoldable pub envelopeRules : List Segment → List Rule
-envelopeRules ss = (not (enveloped ss) ⇒ 7) ∷ []
+-- 7: IEA stands last, and between ISA and IEA stand 1 to limit whole groups
+unfoldable pub enveloped : ℕ → List Segment → Bool
+enveloped limit ss =
+    let gs = groupsOf ss in
+    isNamed (ascii "IEA") (last [] ss) && between 1 limit (length gs) && all isWholeGroup gs
+
+-- one call answers at most so many groups
+abbrev pub mostGroups : ℕ
+mostGroups = 16
+
+unfoldable pub envelopeRules : ℕ → List Segment → List Rule
+envelopeRules limit ss = (not (enveloped limit ss) ⇒ 7) ∷ []
 
 -- 8: IEA has two elements, names this interchange, and counts n groups
 abbrev pub hasTwo : Segment → Bool
@@ -119,13 +129,19 @@ setRules d body =
 unfoldable pub groupRules : Delimiters → Group → List Rule
 groupRules d g = headerRules d (g .header) ++ answerRules (g .header) ++ setRules d (g .body)
 
+-- 9 to 13: all of them on one group before the next
+unfoldable pub groupsRules : Delimiters → List Group → List Rule
+groupsRules d [] = []
+groupsRules d (g ∷ gs) = groupRules d g ++ groupsRules d gs
+
 -- all of them, in the order of checking
 unfoldable pub refusalRules : Bytes → Call → List Rule
 refusalRules i call =
     let d = delimiters i in
     let ss = segments d i in
+    let gs = groupsOf ss in
     callRules call ++ headRules i ++ endRules d i
-    ++ envelopeRules ss ++ trailerRules (last [] ss) 1 (field (isa i) 13) ++ groupRules d (groupOf ss)
+    ++ envelopeRules mostGroups ss ++ trailerRules (last [] ss) (length gs) (field (isa i) 13) ++ groupsRules d gs
 
 -- the number of the refusal, 0 for none of 1 to 13
 unfoldable pub refusal : Bytes → Call → ℕ

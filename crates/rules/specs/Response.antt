@@ -1,4 +1,4 @@
--- "The response": the segments of the 997 as a function of the group's report, the envelope around it, and their bytes.
+-- "The response": the segments of each 997 as a function of its group's report, the envelope around them, and their bytes.
 use Prim.Native.Nat.{ℕ, _+_}
 use mathlib.Core.List.{List, [], _∷_, _++_, map}
 use lib.Dec.{eqb}
@@ -9,7 +9,7 @@ use Rattle.rules.specs.Numbers.{padded, decimal}
 use Rattle.rules.specs.Elements.{Finding}
 use Rattle.rules.specs.Segments.{Note}
 use Rattle.rules.specs.Sets.{SetReport, accepted}
-use Rattle.rules.specs.Groups.{Group, groupOf, GroupReport, groupReport}
+use Rattle.rules.specs.Groups.{Group, groupsOf, GroupReport, groupReport}
 use Rattle.rules.specs.declared.Call.{Call}
 use Rattle.rules.specs.declared.Delimiters.{Delimiters}
 
@@ -83,6 +83,11 @@ told st02 g = stOut st02 ∷ (ak1 g ∷ (blocks (g .sets) ++ ak9 g ∷ []))
 unfoldable pub transactionSet : Bytes → GroupReport → List Segment
 transactionSet st02 g = told st02 g ++ seOut (length (told st02 g) + 1) st02 ∷ []
 
+-- one for each group, in order; ST02 counts from n on, in four digits
+unfoldable pub transactionSets : ℕ → List GroupReport → List Segment
+transactionSets n [] = []
+transactionSets n (g ∷ gs) = transactionSet (padded 4 n) g ++ transactionSets (n + 1) gs
+
 -- 4. The envelope: the parties change places.
 unfoldable pub isaOut : Delimiters → Segment → Call → Segment
 isaOut d received call =
@@ -103,15 +108,21 @@ unfoldable pub ieaOut : ℕ → ℕ → Segment
 ieaOut n control = ascii "IEA" ∷ decimal n ∷ padded 9 control ∷ []
 
 -- 5. The whole response to an interchange.
-unfoldable pub respond : Bytes → Group → Call → List Segment
-respond i g call =
+-- GS of the first group
+abbrev pub firstHeader : List Group → Segment
+firstHeader [] = []
+firstHeader (g ∷ gs) = g .header
+
+-- ISA, one FA group with a 997 for each group received, and IEA; GS is that for the first of them
+unfoldable pub respond : Bytes → List Group → Call → List Segment
+respond i gs call =
     let d = delimiters i in
     isaOut d (isa i) call
-    ∷ (gsOut (g .header) call
-    ∷ (transactionSet (ascii "0001") (groupReport d g)
-    ++ geOut 1 (call .control) ∷ ieaOut 1 (call .control) ∷ []))
+    ∷ (gsOut (firstHeader gs) call
+    ∷ (transactionSets 1 (map (groupReport d) gs)
+    ++ geOut (length gs) (call .control) ∷ ieaOut 1 (call .control) ∷ []))
 
 unfoldable pub response : Bytes → Call → Bytes
 response i call =
     let d = delimiters i in
-    out d (respond i (groupOf (segments d i)) call)
+    out d (respond i (groupsOf (segments d i)) call)

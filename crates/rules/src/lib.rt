@@ -34,7 +34,7 @@ pub const AK9: [u8; 3] = *b"AK9";
 // GS01 of an acknowledgment.
 pub const FA: [u8; 2] = *b"FA";
 
-// The limits of an interchange, in bytes.
+// The limits of an interchange: its bytes, and its groups.
 pub struct Interchange {
     pub length: usize,
 }
@@ -43,6 +43,9 @@ impl Interchange {
     pub const SHORTEST: usize = 106;
 
     pub const LONGEST: usize = 65536;
+
+    // As many groups as are answered in one call.
+    pub const MOST_GROUPS: u64 = 16;
 }
 
 // The bytes that cut an interchange into segments, elements and components.

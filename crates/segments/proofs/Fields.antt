@@ -9,8 +9,8 @@ use borrow.Author.Tests.{eq-eqb, ne-eqb, eqb-true, eqb-false, lt-ltb, le-ltb, lt
 use lib.Dec.{eqb, ltb}
 use lib.ListN.{length, getD, take, drop, length-drop, drop-of-length-le, List·getD-eq-default}
 use lib.Seq.{drop-drop, getD-drop, take-nil}
-use Rattle.rules.specs.Base.{Bytes, same, null, if_then_else_}
-use Rattle.rules.specs.Cutting.{Segment, push, split, field, isNamed}
+use Rattle.rules.specs.Base.{Bytes, same, null, push, if_then_else_}
+use Rattle.rules.specs.Cutting.{Segment, split, field, isNamed}
 use Rattle.rules.proofs.Cuts.{split-step, split-end, split-some}
 use Rattle.text.specs.Text.{indexOf}
 use Rattle.text.proofs.Loops.{left-cons}

@@ -192,7 +192,7 @@ module _ (d : Delimiters) (body : Bytes) (at : ℕ) (r : SetAt) (h : at < length
       ∷ (bodyOf (segments d (drop (end + 1) body)) ++ listed (trailerOf (segments d (drop (end + 1) body))))
   set-whole e = rw e (opened .whole ∙ rw (segments-new d body at _ h refl))
 
-  pub set-is : isST (split (d .element) (take (r .header - at) (drop at body))) ≡ true → SetIs d body at r
+  set-is : isST (split (d .element) (take (r .header - at) (drop at body))) ≡ true → SetIs d body at r
   unfolding setIn setsOf outside
   set-is st = record {
     first = rw (header-at, st) (ap (λ (l : List Set). setIn d body at r ∷ l) (after .others));

@@ -1,11 +1,11 @@
-// The sets of a group, cut from its bytes. `body` is the segments between GS and GE; a place in it may be one past its end.
+// The sets of a group, cut from its bytes, and refusals 11 to 13. The body of a group is the segments between GS and GE; a place in it may
+// be one past its end.
 ghost use mathlib.Core.Path.{_≡_};
-ghost use mathlib.Core.Bool.{true};
-ghost use Rattle.rules.specs.Base.{first};
+ghost use mathlib.Core.Bool.{true, false};
 ghost use Rattle.rules.specs.Cutting as cutting;
 ghost use Rattle.rules.specs.Sets.{isST};
-ghost use Rattle.rules.specs.Refusals.{goodST, setRules};
-ghost use Rattle.sets.specs.Places.{closedAt, unclosedAt, roleOf, setAt};
+ghost use Rattle.rules.specs.Refusals.{goodST};
+ghost use Rattle.sets.specs.Places.{closedAt, unclosedAt, roleOf, setAt, ThroughSet, setsBetween, setsChecked};
 use rules::Delimiters;
 
 // The place of a set.
@@ -56,6 +56,12 @@ impl SetAt {
             segments,
         }
     }
+}
+
+// What the sets of a group come to: where its body ends, or the number of the refusal.
+pub enum SetsCheck {
+    Sound(usize),
+    Refused(u8),
 }
 
 // What a segment is to the sets: ST opens one, SE closes it.
@@ -127,25 +133,66 @@ fn is_good_header(header: &[u8], d: Delimiters) -> bool
     text::is_digits(&header[3..6], 3, 3) && text::is_text(&header[7..end], 4, 9, d)
 }
 
-// Refusals 11 to 13: a segment outside every set, no set, a header that cannot be answered; 0 for none.
-pub fn set_refusal(body: &[u8], d: Delimiters) -> u8
-    ensures { λ r. ⌜ r ≡ first (setRules d (cutting.segments d (now (body .entry)))) ⌝ }
+// Where the set that is open at `at` ends: after its SE, or where the next ST or a segment of the envelope starts.
+fn end_of_set(i: &[u8], d: Delimiters, at: usize) -> usize
+    ensures { λ r. ⌜ ThroughSet d (now (i .entry)) at false r ⌝ }
 {
-    if body.len() == 0 {
-        return 12;
-    }
-    let mut refusal: u8 = 0;
-    let mut at = 0;
-    while at < body.len() {
-        let set = next_set(body, d, at);
-        let header = text::part(body, at, set.header);
-        if !segments::is_named(header, d.element, &rules::ST) {
-            return 11;
+    let mut next = at;
+    while next < i.len() {
+        let end = text::find(i, next, d.terminator);
+        // Most segments are told apart by their first byte, or an empty one by its terminator.
+        let first = i[next];
+        if (first != rules::SE[0]) & (first != rules::ISA[0]) & (first != rules::GS[0]) {
+            next = end + 1;
+            continue;
         }
-        at = set.end;
-        if !is_good_header(header, d) {
-            refusal = 13;
+        let segment = &i[next..end];
+        if segments::is_named(segment, d.element, &rules::SE) {
+            return end + 1;
         }
+        if segments::is_named(segment, d.element, &rules::ST) {
+            return next;
+        }
+        if envelope::is_of_envelope(segment, d.element) {
+            return next;
+        }
+        next = end + 1;
     }
-    refusal
+    next
+}
+
+// What the sets from `at` to `end` come to, where no segment is outside every set; `good` tells that every header can be answered.
+fn sets_between(at: usize, end: usize, good: bool) -> SetsCheck
+    ensures { λ r. ⌜ r ≡ setsBetween at end good ⌝ }
+{
+    if end == at {
+        return SetsCheck::Refused(12);
+    }
+    if !good {
+        return SetsCheck::Refused(13);
+    }
+    SetsCheck::Sound(end)
+}
+
+// Refusals 11 to 13 of the sets from `at` on, up to the first segment of the envelope: a segment outside every set, no set, a header
+// that cannot be answered.
+pub fn check_sets(i: &[u8], d: Delimiters, at: usize) -> SetsCheck
+    ensures { λ r. ⌜ r ≡ setsChecked d (now (i .entry)) at ⌝ }
+{
+    // Every header so far can be answered, and no set is open at `next`.
+    let mut good = true;
+    let mut next = at;
+    while next < i.len() {
+        let end = text::find(i, next, d.terminator);
+        let segment = &i[next..end];
+        if !segments::is_named(segment, d.element, &rules::ST) {
+            if envelope::is_of_envelope(segment, d.element) {
+                return sets_between(at, next, good);
+            }
+            return SetsCheck::Refused(11);
+        }
+        good = good & is_good_header(segment, d);
+        next = end_of_set(i, d, end + 1);
+    }
+    sets_between(at, next, good)
 }

@@ -10,8 +10,8 @@ use std::fmt;
 pub enum Outcome {
     /// A number, and the program that gives it.
     Number(&'static str, u8),
-    /// A code in an AK segment or in TA1: the segment's id and the code as
-    /// written.
+    /// A code in an AK segment or in TA1, or the number of groups in GE: the
+    /// segment's id and the code as written.
     Code(&'static str, String),
 }
 
@@ -28,6 +28,8 @@ pub fn all_outcomes() -> Vec<Outcome> {
     all.extend(codes("AK4", &["1", "2", "3", "4", "5", "6", "7", "8"]));
     all.extend(codes("AK5", &["A", "R", "1", "2", "3", "4", "5", "23"]));
     all.extend(codes("AK9", &["A", "P", "R", "1", "2", "3", "4", "5"]));
+    let counts: Vec<String> = (1..=16).map(|count| count.to_string()).collect();
+    all.extend(counts.into_iter().map(|count| Outcome::Code("GE", count)));
     all.extend(codes("TA1", &["A", "R", "000", "001", "021", "022", "023"]));
     all
 }
@@ -110,6 +112,7 @@ fn segment_codes(segment: &[u8], separator: u8) -> Vec<Outcome> {
         (b"AK4", [_, _, _, code, ..]) => ("AK4", vec![*code]),
         (b"AK5", [_, codes @ ..]) => ("AK5", codes.to_vec()),
         (b"AK9", [_, verdict, _, _, _, codes @ ..]) => ("AK9", [&[*verdict], codes].concat()),
+        (b"GE", [_, count, ..]) => ("GE", vec![*count]),
         (b"TA1", [_, _, _, _, codes @ ..]) => ("TA1", codes.to_vec()),
         _ => return Vec::new(),
     };

@@ -26,14 +26,24 @@ pub enum Edition {
     Of006010,
 }
 
+impl Edition {
+    pub fn any(prng: &mut Prng) -> Self {
+        *prng.pick(&[Edition::Of004010, Edition::Of006010])
+    }
+}
+
 impl Draft {
-    /// An interchange that is accepted whole.
-    pub fn clean(prng: &mut Prng) -> Self {
+    /// An interchange of one group that is accepted whole.
+    pub fn clean(prng: &mut Prng, delimiters: Delimiters) -> Self {
         let sets = *prng.pick(&[1, 1, 1, 2, 2, 3, 5]);
-        let edition = *prng.pick(&[Edition::Of004010, Edition::Of006010]);
-        let mut draft = Draft::without_sets(prng, edition);
+        Draft::of_clean_sets(prng, delimiters, sets)
+    }
+
+    pub fn of_clean_sets(prng: &mut Prng, delimiters: Delimiters, sets: usize) -> Self {
+        let edition = Edition::any(prng);
+        let mut draft = Draft::without_sets(prng, delimiters, edition);
         for number in 1..=sets {
-            let set = clean_set(prng, &draft.delimiters, edition, number);
+            let set = clean_set(prng, &delimiters, edition, number);
             draft.append_to_group(set);
         }
         draft.recount();
@@ -41,25 +51,42 @@ impl Draft {
     }
 
     /// A clean envelope and group around no set.
-    pub fn without_sets(prng: &mut Prng, edition: Edition) -> Self {
-        let delimiters = content::delimiters(prng);
+    pub fn without_sets(prng: &mut Prng, delimiters: Delimiters, edition: Edition) -> Self {
         let interchange_control = content::digits(prng, 9);
         let group_control = {
             let length = prng.between(1, 9);
             content::digits(prng, length)
         };
-        let iea_count = *prng.pick(&["1", "1", "1", "01", "00001"]);
-        Draft {
+        let mut draft = Draft {
             delimiters,
             isa: isa_fields(prng, &delimiters, &interchange_control),
             segments: vec![
                 gs(prng, &delimiters, edition, &group_control),
                 vec![b"GE".to_vec(), b"0".to_vec(), group_control],
-                segment(&["IEA", iea_count], [interchange_control]),
+                segment(&["IEA", ""], [interchange_control]),
             ],
             date: days::day(prng),
             time: content::time(prng),
             control: caller_control(prng),
+        };
+        draft.count_groups(prng);
+        draft
+    }
+
+    pub fn groups(&self) -> usize {
+        self.indices_of("GS").len()
+    }
+
+    /// Sets IEA01 to the right count, at times with leading zeros.
+    pub fn count_groups(&mut self, prng: &mut Prng) {
+        let width = *prng.pick(&[1, 1, 1, 2, 5]);
+        let count = format!("{:0width$}", self.groups());
+        self.set_iea(1, count);
+    }
+
+    pub fn set_iea(&mut self, place: usize, value: impl Into<Vec<u8>>) {
+        if let Some(iea) = self.segments.last_mut() {
+            set_element(iea, place, value);
         }
     }
 
@@ -86,7 +113,8 @@ impl Draft {
             .collect()
     }
 
-    /// Sets every SE01 that has a place, and GE01, to the right count.
+    /// Sets every SE01 that has a place, and GE01, to the right count, where
+    /// there is one group.
     pub fn recount(&mut self) {
         let mut sets = 0;
         let mut set_start = 0;

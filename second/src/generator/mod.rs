@@ -13,12 +13,14 @@ mod echoes;
 mod envelopes;
 mod first_line;
 mod group_damage;
+mod groups;
 pub mod prng;
 mod refusals;
 mod set_damage;
 mod sizes;
 mod soup;
 
+use crate::delimiters::Delimiters;
 use crate::exchange::RESPONSE_BUFFER;
 use crate::{answer, answer_interchange, Answer, Entry};
 use draft::Draft;
@@ -35,7 +37,11 @@ pub enum Family {
     Echoes,
     DamagedGroup,
     Soup,
-    /// With faults of the envelope, or none.
+    /// Of one to sixteen groups of every kind.
+    Groups,
+    /// Of several groups, made for one refusal number from 7 to 13.
+    RefusedGroups(u8),
+    /// With faults of the envelope around one group, or none.
     Envelopes,
     /// Made for one refusal number.
     Refusal(u8),
@@ -49,6 +55,7 @@ pub enum Family {
     ManySets,
     ManyNotes,
     ManyEchoes,
+    LargeGroups,
 }
 
 impl Family {
@@ -62,6 +69,7 @@ impl Family {
         match self {
             Family::Refusal(number) => format!("Refusal {number:02}"),
             Family::RefusalPair(..) => "RefusalPair".to_string(),
+            Family::RefusedGroups(number) => format!("RefusedGroups {number:02}"),
             other => format!("{other:?}"),
         }
     }
@@ -133,67 +141,79 @@ pub fn standard_input(seed: u64, index: u64) -> Vec<u8> {
 /// Nearly all cases are small, so that a run of many is quick.
 fn pick_family(prng: &mut Prng) -> Family {
     match prng.below(1000) {
-        0..60 => Family::Clean,
-        60..270 => Family::DamagedSets,
-        270..310 => Family::Echoes,
-        310..312 => Family::ManyEchoes,
-        312..352 => Family::MonthEnds,
-        352..452 => Family::DamagedGroup,
-        452..562 => Family::Soup,
-        562..662 => Family::Envelopes,
-        662..742 => Family::Refusal(prng.between(1, 14) as u8),
-        742..832 => {
+        0..50 => Family::Clean,
+        50..220 => Family::DamagedSets,
+        220..260 => Family::Echoes,
+        260..262 => Family::ManyEchoes,
+        262..302 => Family::MonthEnds,
+        302..382 => Family::DamagedGroup,
+        382..462 => Family::Soup,
+        462..552 => Family::Groups,
+        552..612 => {
+            let number = *prng.pick(&[7, 7, 7, 8, 8, 8, 9, 10, 11, 12, 13]);
+            Family::RefusedGroups(number)
+        }
+        612..712 => Family::Envelopes,
+        712..782 => Family::Refusal(prng.byte_between(1, 14)),
+        782..867 => {
             let one = prng.between(1, 14) as u8;
             let other = (one + prng.byte_between(0, 12)) % 14 + 1;
             Family::RefusalPair(one.min(other), one.max(other))
         }
-        832..940 => Family::DamagedBytes,
-        940..981 => Family::BufferEdge,
-        981..986 => Family::DeepNumbers,
-        986..994 => Family::NearShortest,
-        994..996 => Family::NearLongest,
-        996..998 => Family::ManySets,
-        _ => Family::ManyNotes,
+        867..952 => Family::DamagedBytes,
+        952..982 => Family::BufferEdge,
+        982..987 => Family::DeepNumbers,
+        987..992 => Family::NearShortest,
+        992..994 => Family::NearLongest,
+        994..996 => Family::ManySets,
+        996..998 => Family::ManyNotes,
+        _ => Family::LargeGroups,
     }
 }
 
 fn make_in_family(prng: &mut Prng, family: Family) -> Case {
+    let delimiters = content::delimiters(prng);
     match family {
-        Family::Clean => as_drafted(family, &Draft::clean(prng)),
-        Family::DamagedSets => as_drafted(family, &damaged_sets(prng)),
-        Family::MonthEnds => as_drafted(family, &month_ends(prng)),
-        Family::Echoes => at_buffer_edge(prng, family, echoes),
-        Family::DamagedGroup => as_drafted(family, &damaged_group(prng)),
-        Family::Soup => as_drafted(family, &soup::soup(prng)),
-        Family::Envelopes => envelopes(prng),
+        Family::Clean => as_drafted(family, &Draft::clean(prng, delimiters)),
+        Family::DamagedSets => as_drafted(family, &damaged_sets(prng, delimiters)),
+        Family::MonthEnds => as_drafted(family, &month_ends(prng, delimiters)),
+        Family::Echoes => at_buffer_edge(family, &echoes(prng, delimiters), prng),
+        Family::DamagedGroup => as_drafted(family, &damaged_group(prng, delimiters)),
+        Family::Soup => as_drafted(family, &soup::soup(prng, delimiters)),
+        Family::Groups => at_buffer_edge(family, &groups(prng, delimiters), prng),
+        Family::RefusedGroups(number) => {
+            as_drafted(family, &groups::refused(prng, delimiters, number))
+        }
+        Family::Envelopes => envelopes(prng, delimiters),
         Family::Refusal(number) => {
-            let draft = Draft::clean(prng);
+            let draft = Draft::clean(prng, delimiters);
             refused(prng, family, draft, &[number])
         }
         Family::RefusalPair(low, high) => {
-            let draft = Draft::clean(prng);
+            let draft = Draft::clean(prng, delimiters);
             refused(prng, family, draft, &[high, low])
         }
         Family::DamagedBytes => {
-            let mut case = as_drafted(family, &any_small(prng));
+            let mut case = as_drafted(family, &any_small(prng, delimiters));
             byte_damage::damage_bytes(prng, &mut case.interchange);
             case
         }
         Family::BufferEdge => {
-            let mut case = as_drafted(family, &any_small(prng));
+            let mut case = as_drafted(family, &any_small(prng, delimiters));
             case.buffer_length = near_needed(prng, &case);
             case
         }
         Family::NearShortest => {
-            let mut draft = Draft::clean(prng);
+            let mut draft = Draft::clean(prng, delimiters);
             let interchange = sizes::near_shortest(prng, &mut draft);
             case_of(family, &draft, interchange)
         }
-        Family::NearLongest => as_drafted(family, &sizes::near_longest(prng)),
-        Family::DeepNumbers => as_drafted(family, &sizes::deep_numbers(prng)),
-        Family::ManySets => at_buffer_edge(prng, family, sizes::many_sets),
-        Family::ManyNotes => at_buffer_edge(prng, family, sizes::many_notes),
-        Family::ManyEchoes => at_buffer_edge(prng, family, sizes::many_echoes),
+        Family::NearLongest => as_drafted(family, &sizes::near_longest(prng, delimiters)),
+        Family::DeepNumbers => as_drafted(family, &sizes::deep_numbers(prng, delimiters)),
+        Family::ManySets => at_buffer_edge(family, &sizes::many_sets(prng, delimiters), prng),
+        Family::ManyNotes => at_buffer_edge(family, &sizes::many_notes(prng, delimiters), prng),
+        Family::ManyEchoes => at_buffer_edge(family, &sizes::many_echoes(prng, delimiters), prng),
+        Family::LargeGroups => at_buffer_edge(family, &sizes::large_groups(prng, delimiters), prng),
     }
 }
 
@@ -212,34 +232,34 @@ fn case_of(family: Family, draft: &Draft, interchange: Vec<u8>) -> Case {
     }
 }
 
-fn damaged_sets(prng: &mut Prng) -> Draft {
-    let mut draft = Draft::clean(prng);
+fn damaged_sets(prng: &mut Prng, delimiters: Delimiters) -> Draft {
+    let mut draft = Draft::clean(prng, delimiters);
     set_damage::damage_sets(prng, &mut draft);
     draft
 }
 
-fn month_ends(prng: &mut Prng) -> Draft {
+fn month_ends(prng: &mut Prng, delimiters: Delimiters) -> Draft {
     let mut draft = if prng.percent(50) {
-        Draft::clean(prng)
+        Draft::clean(prng, delimiters)
     } else {
-        damaged_sets(prng)
+        damaged_sets(prng, delimiters)
     };
     days::put_near_month_ends(prng, &mut draft);
     draft
 }
 
-fn echoes(prng: &mut Prng) -> Draft {
+fn echoes(prng: &mut Prng, delimiters: Delimiters) -> Draft {
     let mut draft = if prng.percent(70) {
-        Draft::clean(prng)
+        Draft::clean(prng, delimiters)
     } else {
-        damaged_sets(prng)
+        damaged_sets(prng, delimiters)
     };
     echoes::put_values(prng, &mut draft);
     draft
 }
 
-fn damaged_group(prng: &mut Prng) -> Draft {
-    let mut draft = Draft::clean(prng);
+fn damaged_group(prng: &mut Prng, delimiters: Delimiters) -> Draft {
+    let mut draft = Draft::clean(prng, delimiters);
     if prng.percent(30) {
         set_damage::damage_sets(prng, &mut draft);
     }
@@ -247,21 +267,48 @@ fn damaged_group(prng: &mut Prng) -> Draft {
     draft
 }
 
-fn any_small(prng: &mut Prng) -> Draft {
+/// One group of every kind.
+fn any_group(prng: &mut Prng, delimiters: Delimiters) -> Draft {
     match prng.below(5) {
-        0 => Draft::clean(prng),
-        1 => damaged_sets(prng),
-        2 => damaged_group(prng),
-        3 => echoes(prng),
-        _ => soup::soup(prng),
+        0 => Draft::clean(prng, delimiters),
+        1 => damaged_sets(prng, delimiters),
+        2 => damaged_group(prng, delimiters),
+        3 => echoes(prng, delimiters),
+        _ => soup::soup(prng, delimiters),
     }
 }
 
-fn envelopes(prng: &mut Prng) -> Case {
+/// One group in most cases, and else two or three.
+fn any_small(prng: &mut Prng, delimiters: Delimiters) -> Draft {
+    let groups = *prng.pick(&[1, 1, 1, 1, 2, 2, 3]);
+    let parts = (0..groups).map(|_| any_group(prng, delimiters)).collect();
+    groups::joined(prng, parts)
+}
+
+fn groups(prng: &mut Prng, delimiters: Delimiters) -> Draft {
+    let count = groups::count(prng);
+    // Most are clean, so that the faults of one show beside the others.
+    let mut parts: Vec<Draft> = (0..count)
+        .map(|_| match prng.below(8) {
+            0..4 => groups::small(prng, delimiters),
+            4 | 5 => damaged_sets(prng, delimiters),
+            6 => damaged_group(prng, delimiters),
+            _ => any_group(prng, delimiters),
+        })
+        .collect();
+    groups::liken(prng, &mut parts);
+    let mut draft = groups::joined(prng, parts);
+    if prng.percent(10) {
+        groups::leave_open(&mut draft);
+    }
+    draft
+}
+
+fn envelopes(prng: &mut Prng, delimiters: Delimiters) -> Case {
     let mut draft = if prng.percent(75) {
-        Draft::clean(prng)
+        Draft::clean(prng, delimiters)
     } else {
-        damaged_group(prng)
+        damaged_group(prng, delimiters)
     };
     if prng.percent(50) {
         envelopes::put_date_and_time(prng, &mut draft);
@@ -289,9 +336,8 @@ fn refused(prng: &mut Prng, family: Family, mut draft: Draft, numbers: &[u8]) ->
     case
 }
 
-fn at_buffer_edge(prng: &mut Prng, family: Family, make: fn(&mut Prng) -> Draft) -> Case {
-    let draft = make(prng);
-    let mut case = as_drafted(family, &draft);
+fn at_buffer_edge(family: Family, draft: &Draft, prng: &mut Prng) -> Case {
+    let mut case = as_drafted(family, draft);
     if prng.percent(50) {
         case.buffer_length = near_needed(prng, &case);
     }

@@ -139,9 +139,10 @@ fn spoil_last_byte(prng: &mut Prng, terminator: u8, bytes: &mut Vec<u8>) {
 }
 
 fn spoil_envelope_order(prng: &mut Prng, draft: &mut Draft) {
+    let group_end = draft.group_end();
     let segments = &mut draft.segments;
     let last = segments.len() - 1;
-    match prng.below(9) {
+    match prng.below(10) {
         0 => segments.clear(),
         1 => {
             segments.remove(0);
@@ -154,8 +155,12 @@ fn spoil_envelope_order(prng: &mut Prng, draft: &mut Draft) {
         5 => segments.push(segment(&[*prng.pick(&["", "TA1", "GE", "IEA"])], [])),
         6 => segments.insert(0, segment(&[*prng.pick(&["", "TA1", "ISA"])], [])),
         7 => {
-            let id = *prng.pick(&["ISA", "GS", "IEA"]);
+            let id = *prng.pick(&["ISA", "IEA"]);
             segments.insert(prng.between(1, last), segment(&[id], []));
+        }
+        8 => {
+            // Behind GE it would begin a second group.
+            segments.insert(prng.between(1, group_end), segment(&["GS"], []));
         }
         _ => {
             let at = prng.between(1, last);
@@ -176,8 +181,8 @@ fn spoil_iea(prng: &mut Prng, draft: &mut Draft) {
             spoil_iea_control_number(prng, draft);
         }
         13 => {
-            set_iea(draft, 1, "");
-            set_iea(draft, 2, "");
+            draft.set_iea(1, "");
+            draft.set_iea(2, "");
         }
         14 => {
             spoil_iea_control_number(prng, draft);
@@ -191,28 +196,32 @@ fn spoil_iea(prng: &mut Prng, draft: &mut Draft) {
     }
 }
 
-fn spoil_iea_group_count(prng: &mut Prng, draft: &mut Draft) {
-    let bad = [
-        "",
-        "",
-        "0",
-        "2",
-        "10",
-        "11",
-        "00000",
-        "257",
-        "65537",
-        "000001",
-        "000001",
-        "0000000001",
-        "4294967297",
-        "-1",
-        "+1",
-        "1 ",
-        " 1",
-        "A",
-    ];
-    set_iea(draft, 1, *prng.pick(&bad));
+/// An IEA01 that looks like the number of groups, or has its value.
+pub fn spoil_iea_group_count(prng: &mut Prng, draft: &mut Draft) {
+    let groups = draft.groups();
+    let bad = match prng.below(22) {
+        0 | 1 => String::new(),
+        2 => "0".to_string(),
+        3 => "00000".to_string(),
+        4 => "A".to_string(),
+        5 => format!("{groups}0"),
+        6 => format!("1{groups}"),
+        7 => (groups + 256).to_string(),
+        8 => (groups + 65_536).to_string(),
+        9 => (groups + (1 << 32)).to_string(),
+        10 | 11 => format!("{groups:06}"),
+        12 => format!("{groups:010}"),
+        13 => format!("-{groups}"),
+        14 => format!("+{groups}"),
+        15 => format!("{groups} "),
+        16 => format!(" {groups}"),
+        17 if groups > 1 => "1".to_string(),
+        18 if groups > 9 => format!("{groups:X}"),
+        19 => (groups - 1).to_string(),
+        20 => format!("{:05}", groups - 1),
+        _ => (groups + 1).to_string(),
+    };
+    draft.set_iea(1, bad);
 }
 
 fn spoil_iea_control_number(prng: &mut Prng, draft: &mut Draft) {
@@ -233,7 +242,7 @@ fn spoil_iea_control_number(prng: &mut Prng, draft: &mut Draft) {
         }
         _ => control[at] = other_digit(prng, control[at]),
     }
-    set_iea(draft, 2, control);
+    draft.set_iea(2, control);
 }
 
 /// Gives the interchange a control number with zeros before its value.
@@ -241,7 +250,7 @@ fn start_with_zeros(prng: &mut Prng, draft: &mut Draft) {
     let zeros = prng.between(1, 8);
     draft.isa[12][..zeros].fill(b'0');
     let control = draft.isa[12].clone();
-    set_iea(draft, 2, control);
+    draft.set_iea(2, control);
 }
 
 fn other_digit(prng: &mut Prng, digit: u8) -> u8 {
@@ -257,12 +266,6 @@ fn spoil_iea_elements(prng: &mut Prng, draft: &mut Draft) {
         1 => iea.truncate(2),
         2 => iea.push(prng.pick(&["", "", "1"]).as_bytes().to_vec()),
         _ => iea.extend([Vec::new(), Vec::new()]),
-    }
-}
-
-fn set_iea(draft: &mut Draft, place: usize, value: impl Into<Vec<u8>>) {
-    if let Some(iea) = draft.segments.last_mut() {
-        set_element(iea, place, value);
     }
 }
 

@@ -3,7 +3,9 @@
 use super::content;
 use super::control_numbers;
 use super::draft::{clean_set, segment, set_element, Draft, DraftSegment, Edition};
+use super::groups;
 use super::prng::Prng;
+use crate::delimiters::Delimiters;
 use crate::isa::{ISA_LENGTH, LONGEST_INTERCHANGE};
 
 /// Cut off or filled up to a length near 106.
@@ -18,11 +20,10 @@ pub fn near_shortest(prng: &mut Prng, draft: &mut Draft) -> Vec<u8> {
 }
 
 /// Filled up with one long B102 to a length near 65,536.
-pub fn near_longest(prng: &mut Prng) -> Draft {
+pub fn near_longest(prng: &mut Prng, delimiters: Delimiters) -> Draft {
     let length = prng.between(LONGEST_INTERCHANGE - 2, LONGEST_INTERCHANGE + 2);
     let edition = Edition::Of006010;
-    let mut draft = Draft::without_sets(prng, edition);
-    let delimiters = draft.delimiters;
+    let mut draft = Draft::without_sets(prng, delimiters, edition);
     for number in 1..=*prng.pick(&[1, 10, 500]) {
         draft.append_to_group(clean_set(prng, &delimiters, edition, number));
     }
@@ -37,9 +38,9 @@ pub fn near_longest(prng: &mut Prng) -> Draft {
 
 /// Hundreds to thousands of sets, up to as many as fit; some control numbers
 /// come again, most of them far apart.
-pub fn many_sets(prng: &mut Prng) -> Draft {
-    let edition = *prng.pick(&[Edition::Of004010, Edition::Of006010]);
-    let mut draft = Draft::without_sets(prng, edition);
+pub fn many_sets(prng: &mut Prng, delimiters: Delimiters) -> Draft {
+    let edition = Edition::any(prng);
+    let mut draft = Draft::without_sets(prng, delimiters, edition);
     let shape = *prng.pick(&[
         TinySet::HeaderOnly,
         TinySet::HeaderOnly,
@@ -52,17 +53,23 @@ pub fn many_sets(prng: &mut Prng) -> Draft {
         0 => most - prng.below(20),
         _ => prng.between(300, most),
     };
-    let mut numbers = match longest {
-        9 => control_numbers::of_one_bucket("AAAA", count),
-        5 => control_numbers::of_one_bucket("", count),
-        _ => (0..count).map(|n| format!("{n:04}").into_bytes()).collect(),
-    };
+    let mut numbers = different_numbers(longest, count);
     for _ in 0..prng.below(12) {
         let (one, other) = (place(prng, count), place(prng, count));
         numbers[one.max(other)] = numbers[one.min(other)].clone();
     }
     append_sets(&mut draft, shape, &numbers);
     draft
+}
+
+/// So many different control numbers of 4, 5 or 9 bytes, the longer ones of
+/// one bucket.
+fn different_numbers(length: usize, count: usize) -> Vec<Vec<u8>> {
+    match length {
+        9 => control_numbers::of_one_bucket("AAAA", count),
+        5 => control_numbers::of_one_bucket("", count),
+        _ => (0..count).map(|n| format!("{n:04}").into_bytes()).collect(),
+    }
 }
 
 /// Anywhere, or at either end.
@@ -75,17 +82,57 @@ fn place(prng: &mut Prng, count: usize) -> usize {
 }
 
 /// Sets whose control numbers are a long way to look up, and these again.
-pub fn deep_numbers(prng: &mut Prng) -> Draft {
-    let edition = *prng.pick(&[Edition::Of004010, Edition::Of006010]);
-    let mut draft = Draft::without_sets(prng, edition);
+pub fn deep_numbers(prng: &mut Prng, delimiters: Delimiters) -> Draft {
+    let edition = Edition::any(prng);
+    let mut draft = Draft::without_sets(prng, delimiters, edition);
     let shape = *prng.pick(&[TinySet::HeaderOnly, TinySet::WithTrailer, TinySet::Clean]);
-    let mut numbers = control_numbers::way_through_a_tree(prng, &draft.delimiters);
+    let mut numbers = control_numbers::way_through_a_tree(prng, &delimiters);
     for _ in 0..prng.below(20) {
         let again = prng.pick(&numbers).clone();
         numbers.push(again);
     }
     append_sets(&mut draft, shape, &numbers);
     draft
+}
+
+/// Several groups of up to thousands of sets, together up to as many as fit.
+/// The groups have the same control numbers, in another order or in part.
+pub fn large_groups(prng: &mut Prng, delimiters: Delimiters) -> Draft {
+    let groups = *prng.pick(&[2, 2, 3, 4, 16]);
+    let shape = *prng.pick(&[TinySet::HeaderOnly, TinySet::WithTrailer, TinySet::Clean]);
+    let length = *prng.pick(&[4, 4, 5, 9]);
+    let mut parts: Vec<Draft> = (0..groups)
+        .map(|_| {
+            let edition = Edition::any(prng);
+            Draft::without_sets(prng, delimiters, edition)
+        })
+        .collect();
+    let longest_part = parts.iter().map(|part| part.render().len()).max();
+    let room = LONGEST_INTERCHANGE / groups - longest_part.unwrap_or(0) - "00000".len();
+    let most = room / rendered_length(&tiny_set(shape, &[b'0'; 9][..length]));
+    let numbers = if prng.percent(20) {
+        control_numbers::way_through_a_tree(prng, &delimiters)
+    } else {
+        different_numbers(length, most)
+    };
+    for part in &mut parts {
+        let start = prng.below(numbers.len());
+        let sets = prng.between(1, most.min(numbers.len()));
+        let mut own: Vec<Vec<u8>> = numbers
+            .iter()
+            .cycle()
+            .skip(start)
+            .take(sets)
+            .cloned()
+            .collect();
+        for _ in 0..prng.below(3) {
+            let again = prng.pick(&own).clone();
+            let last = own.len() - 1;
+            own[last] = again;
+        }
+        append_sets(part, shape, &own);
+    }
+    groups::joined(prng, parts)
 }
 
 /// The bytes that the segments of a draft may still take, with a longer GE01.
@@ -124,8 +171,8 @@ fn tiny_set(shape: TinySet, control: &[u8]) -> Vec<DraftSegment> {
 }
 
 /// One set of thousands of segments, up to as many as fit, each of which is noted.
-pub fn many_notes(prng: &mut Prng) -> Draft {
-    let mut draft = Draft::without_sets(prng, Edition::Of006010);
+pub fn many_notes(prng: &mut Prng, delimiters: Delimiters) -> Draft {
+    let mut draft = Draft::without_sets(prng, delimiters, Edition::Of006010);
     let mut set = tiny_set(TinySet::Clean, b"0001");
     let stray = segment(&[*prng.pick(&["", "N1", "K1", "b1"])], []);
     let room = room(&draft) - rendered_length(&set) - "00000".len();
@@ -147,11 +194,11 @@ pub fn many_notes(prng: &mut Prng) -> Draft {
 
 /// One set of hundreds of segments, up to as many as fit, each with a value
 /// that is shown.
-pub fn many_echoes(prng: &mut Prng) -> Draft {
-    let mut draft = Draft::without_sets(prng, Edition::Of004010);
+pub fn many_echoes(prng: &mut Prng, delimiters: Delimiters) -> Draft {
+    let mut draft = Draft::without_sets(prng, delimiters, Edition::Of004010);
     let mut set = tiny_set(TinySet::Clean, b"0001");
     let length = *prng.pick(&[31, 98, 99, 100, 150]);
-    let shown = segment(&["K1"], [content::text(prng, &draft.delimiters, length)]);
+    let shown = segment(&["K1"], [content::text(prng, &delimiters, length)]);
     let room = room(&draft) - rendered_length(&set) - "00000".len();
     let most = room / rendered_length(std::slice::from_ref(&shown));
     let count = prng.between(100, most);

@@ -2,6 +2,7 @@
 
 use super::draft::{segment, Draft, DraftSegment, Edition};
 use super::prng::Prng;
+use crate::delimiters::Delimiters;
 
 const IDS: [&str; 16] = [
     "SE", "SE", "SE", "B1", "B1", "B1", "L11", "L11", "K1", "K1", "ST", "ST", "N1", "ZZZ", "b1", "",
@@ -12,9 +13,9 @@ const ELEMENTS: [&str; 21] = [
     "0001", "0002", "2", "3", "4", "-3", "990",
 ];
 
-pub fn soup(prng: &mut Prng) -> Draft {
-    let edition = *prng.pick(&[Edition::Of004010, Edition::Of006010]);
-    let mut draft = Draft::without_sets(prng, edition);
+pub fn soup(prng: &mut Prng, delimiters: Delimiters) -> Draft {
+    let edition = Edition::any(prng);
+    let mut draft = Draft::without_sets(prng, delimiters, edition);
     let segments = prng.between(0, 12);
     let mut group = vec![likely_header(prng)];
     let mut open = true;

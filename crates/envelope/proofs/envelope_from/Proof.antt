@@ -20,17 +20,17 @@ abbrev μ-loop : tie.MeasureT-loop
 loop-holds : tie.Need-loop-holds Inv-loop μ-loop
 loop-holds c = refl
 
-part-is-of-envelope-end : tie.Need-part-is-of-envelope-end Inv-loop μ-loop
-part-is-of-envelope-end c = find-end _ _ _ _ (c .find .ensures) (c .before .loop-test .taken)
+part-ends-body-end : tie.Need-part-ends-body-end Inv-loop μ-loop
+part-ends-body-end c = find-end _ _ _ _ (c .find .ensures) (c .before .loop-test .taken)
 
 returns : tie.Need-returns Inv-loop μ-loop
-returns c = sym (c .before .before .before .before .before .loop .inv ∙ until-here _ _ _ _ _ (c .before .before .before .before .loop-test .taken) (c .before .before .before .find .ensures) (sym (c .before .is-of-envelope .ensures) ∙ c .if1 .taken))
+returns c = sym (c .before .before .before .before .before .loop .inv ∙ until-here _ _ _ _ _ (c .before .before .before .before .loop-test .taken) (c .before .before .before .find .ensures) (sym (c .before .ends-body .ensures) ∙ c .if1 .taken))
 
 add-at : tie.Need-add-at Inv-loop μ-loop
 add-at c = let within = find-end _ _ _ _ (c .before .before .before .find .ensures) (c .before .before .before .before .loop-test .taken) in omega arith
 
 loop-again : tie.Need-loop-again Inv-loop μ-loop
-loop-again c = c .before .before .before .before .before .loop .inv ∙ until-later _ _ _ _ _ (c .before .before .before .before .loop-test .taken) (c .before .before .before .find .ensures) (sym (c .before .is-of-envelope .ensures) ∙ c .if1 .left)
+loop-again c = c .before .before .before .before .before .loop .inv ∙ until-later _ _ _ _ _ (c .before .before .before .before .loop-test .taken) (c .before .before .before .find .ensures) (sym (c .before .ends-body .ensures) ∙ c .if1 .left)
 
 returns-2 : tie.Need-returns-2 Inv-loop μ-loop
 returns-2 c = sym (c .before .loop .inv ∙ until-none _ _ _ _ (c .loop-test .left))
@@ -45,7 +45,7 @@ envelope-from-spec =
     (λ c κs. search needs)
     (λ c. search needs)
     (λ c. search needs)
-    part-is-of-envelope-end
+    part-ends-body-end
     (λ c κs. search needs)
     returns
     add-at

@@ -1,86 +1,48 @@
 -- `envelope::envelope_of` meets its contract.
-use mathlib.Core.Path.{refl, sym, _∙_}
-use borrow.Author.Tests.{not-true, not-false, le-leb, lt-leb}
-use Rattle.rules.specs.Base.{ascii, same}
-use Rattle.text.proofs.Loops.{and-false}
-use Rattle.text.proofs.Search.{find-le, find-end}
-use Rattle.envelope.proofs.Places.{named-within, envelope-by}
+use mathlib.Core.Path.{sym, _∙_}
+use Rattle.text.proofs.Search.{find-le}
+use Rattle.envelope.proofs.Places.{envelope-without, envelope-over, envelope-to}
 use borrow.Author.Needs.{needs}
 use native.Mathlib.Omega.{arith}
 use Rattle.envelope.proofs.envelope_of.Statement.{statement}
 use Rattle.envelope.proofs.envelope_of.Tie as tie
 
-add-gs : tie.Need-add-gs
-add-gs c = let start = c .before .before .args in omega (arith, find-le (start .d .terminator) (start .i .now) 0 (omega arith), c .find .ensures)
+add-start : tie.Need-add-start
+add-start c =
+    let start = c .before .before .args in
+    omega (arith, find-le (start .d .terminator) (start .i .now) 0 (omega arith), c .find .ensures)
 
 returns : tie.Need-returns
 returns c =
-    let start = c .before .before .before .before .before .before in
-    sym
-    (envelope-by (start .args .d) (start .args .i .now) (c .before .before .before .before .find .ensures) (c .before .before .before .find2 .ensures) refl refl refl
-    ∙ simp (sym (c .before .is-named-at .ensures) ∙ not-true _ (c .if1 .taken)))
-
-add-body : tie.Need-add-body
-unfolding same
-add-body c =
-    let there = named-within (ascii "GS") _ _ _ _ refl (sym (c .before .is-named-at .ensures) ∙ not-false _ (c .if1 .left)) in
-    let within = find-end _ _ _ _ (c .before .before .before .find2 .ensures) there in
-    omega arith
+    let ended = c .before .before in
+    let found = ended .before .before .before .before in
+    c .envelope-ending .ensures
+    ∙ envelope-to _ _ _ (found .before .before .before .find .ensures) (sym (found .before .before .next-group .ensures) ∙ found .first .given .1)
+    (sym (ended .before .before .groups-end .ensures) ∙ ended .groups .given .1)
 
 returns-2 : tie.Need-returns-2
 returns-2 c =
-    let iea = c .before .before .before in
-    let ge = iea .before .before in
-    let gs = ge .before .before .before .before in
-    let start = gs .before .before .before in
-    sym
-    (envelope-by (start .args .d) (start .args .i .now) (gs .before .find .ensures) (gs .find2 .ensures) (ge .envelope-from .ensures) (iea .before .trailer-at .ensures) (iea .find3 .ensures)
-    ∙ simp (sym (c .before .is-named-at2 .ensures) ∙ not-true _ (c .if2 .taken), and-false))
-
-add-if3 : tie.Need-add-if3
-unfolding same
-add-if3 c =
-    let there = named-within (ascii "IEA") _ _ _ _ refl (sym (c .before .is-named-at2 .ensures) ∙ not-false _ (c .if2 .left)) in
-    let within = find-end _ _ _ _ (c .before .before .before .find3 .ensures) there in
-    omega arith
+    let found = c .before .before .before .before in
+    envelope-over _ _ _ (found .before .before .before .find .ensures) (sym (found .before .before .next-group .ensures) ∙ found .first .given .1)
+    (sym (c .before .before .groups-end .ensures) ∙ c .enum-told .given .1)
 
 returns-3 : tie.Need-returns-3
 returns-3 c =
-    let iea = c .before .before .before .before in
-    let ge = iea .before .before in
-    let gs = ge .before .before .before .before in
-    let start = gs .before .before .before in
-    sym
-    (envelope-by (start .args .d) (start .args .i .now) (gs .before .find .ensures) (gs .find2 .ensures) (ge .envelope-from .ensures) (iea .before .trailer-at .ensures) (iea .find3 .ensures)
-    ∙ simp (lt-leb _ _ (c .if3 .taken), and-false))
-
-returns-4 : tie.Need-returns-4
-returns-4 c =
-    let iea = c .before .before .before .before in
-    let ge = iea .before .before in
-    let gs = ge .before .before .before .before in
-    let start = gs .before .before .before in
-    sym
-    (envelope-by (start .args .d) (start .args .i .now) (gs .before .find .ensures) (gs .find2 .ensures) (ge .envelope-from .ensures) (iea .before .trailer-at .ensures) (iea .find3 .ensures)
-    ∙ simp (sym (ge .before .before .is-named-at .ensures) ∙ not-false _ (ge .before .if1 .left), sym (c .before .before .is-named-at2 .ensures) ∙ not-false _ (c .before .if2 .left), le-leb _ _ (c .if3 .left)))
+    envelope-without _ _ _ (c .before .before .before .find .ensures) (sym (c .before .before .next-group .ensures) ∙ c .enum-told2 .given .1)
 
 pub envelope-of-spec : {M : Type 1} → statement M
 envelope-of-spec =
     tie.close
     (tie.spec
     (λ c κs. search needs)
-    add-gs
+    add-start
     (λ c κs. search needs)
     (λ c. search needs)
     (λ c κs. search needs)
+    (λ c. search needs)
+    (λ c κs. search needs)
+    (λ c. search needs)
+    (λ c. search needs)
     returns
-    add-body
-    (λ c κs. search needs)
-    (λ c κs. search needs)
-    (λ c κs. search needs)
-    (λ c. search needs)
-    (λ c κs. search needs)
     returns-2
-    add-if3
-    returns-3
-    returns-4)
+    returns-3)

@@ -18,17 +18,17 @@ use Rattle.register.proofs.search.Statement.{statement}
 use Rattle.register.proofs.search.Tie as tie
 
 abbrev Inv-loop : tie.InvT-loop
-Inv-loop body d starts links control found slot last i link k start j₀ j =
+Inv-loop body d first starts links control found slot last i link k start j₀ j =
     (j ≤ length control) × (drop j control ≡ take (length control - j) (drop (start + j) body))
 
 abbrev μ-loop : tie.MeasureT-loop
-μ-loop body d starts links control found slot last i link k start j₀ j = j
+μ-loop body d first starts links control found slot last i link k start j₀ j = j
 
 abbrev Inv-sets : tie.InvT-sets
-Inv-sets body d starts links control found₀ slot₀ last₀ i₀ found slot last i = (found ≡ Repeated) × (i ≤ last) × (trees.search d body starts links control ≡ trees.walk (65536 - i) d body starts links control slot last i)
+Inv-sets body d first starts links control found₀ slot₀ last₀ i₀ found slot last i = (found ≡ Repeated) × (i ≤ last) × (trees.search d body first starts links control ≡ trees.walk (65536 - i) d body first starts links control slot last i) × (first ≤ last)
 
 abbrev μ-sets : tie.MeasureT-sets
-μ-sets body d starts links control found₀ slot₀ last₀ i₀ found slot last i = 65536 - last
+μ-sets body d first starts links control found₀ slot₀ last₀ i₀ found slot last i = 65536 - last
 
 -- a link has sixteen bits
 small : (c : tie.After-link-at Inv-loop μ-loop Inv-sets μ-sets) → c .link-at .result < 65536
@@ -44,15 +44,15 @@ Turn q c =
     let a = head .before .before .before .before .before .before .args in
     let s = head .sets in
     let link = c .before .before .before .before .link-at .result in
-    trees.search (a .d) (a .body .now) (a .starts .now) (a .links .now) (a .control .now)
-    ≡ trees.foundAt false q (s .slot) (trees.walk (65536 - (s .i + 1)) (a .d) (a .body .now) (a .starts .now) (a .links .now) (a .control .now) (trees.slotOf (link - 1) (c .bits-at .result)) link (s .i + 1))
+    trees.search (a .d) (a .body .now) (a .first) (a .starts .now) (a .links .now) (a .control .now)
+    ≡ trees.foundAt false q (s .slot) (trees.walk (65536 - (s .i + 1)) (a .d) (a .body .now) (a .first) (a .starts .now) (a .links .now) (a .control .now) (trees.slotOf (link - 1) (c .bits-at .result)) link (s .i + 1))
 
 turn : (q : Bool) (c : tie.After-bits-at Inv-loop μ-loop Inv-sets μ-sets)
     → (let head = c .before .before .before .before .before in let a = head .before .before .before .before .before .before .args in same (a .control .now) (fieldIn (a .d) 0 (drop (c .before .control-start .result) (a .body .now))) ≡ q) → Turn q c
 turn q c e =
     let head = c .before .before .before .before .before in
     head .sets .inv .2
-    ∙ search-step _ _ _ _ _ _ q (small (c .before .before .before .before)) (head .sets .inv .1) (c .before .before .before .if1 .left) (c .before .before .before .before .link-at .ensures) (c .bits-at .ensures) (c .before .before .start-at .ensures) (sym (c .before .control-start .ensures .1)) e
+    ∙ search-step _ _ _ _ _ _ _ q (small (c .before .before .before .before)) (head .sets .inv .1) (c .before .before .before .if1 .left) (c .before .before .before .before .link-at .ensures) (c .bits-at .ensures) (c .before .before .start-at .ensures) (sym (c .before .control-start .ensures .1)) e
 
 -- the search goes on after a set with another number
 abbrev Goes : tie.After-bits-at Inv-loop μ-loop Inv-sets μ-sets → Type 0
@@ -61,15 +61,18 @@ Goes c =
     let a = head .before .before .before .before .before .before .args in
     let s = head .sets in
     let link = c .before .before .before .before .link-at .result in
-    (s .found ≡ Repeated) × (s .i + 1 ≤ link) × (trees.search (a .d) (a .body .now) (a .starts .now) (a .links .now) (a .control .now) ≡ trees.walk (65536 - (s .i + 1)) (a .d) (a .body .now) (a .starts .now) (a .links .now) (a .control .now) (trees.slotOf (link - 1) (c .bits-at .result)) link (s .i + 1))
+    (s .found ≡ Repeated) × (s .i + 1 ≤ link) × (trees.search (a .d) (a .body .now) (a .first) (a .starts .now) (a .links .now) (a .control .now) ≡ trees.walk (65536 - (s .i + 1)) (a .d) (a .body .now) (a .first) (a .starts .now) (a .links .now) (a .control .now) (trees.slotOf (link - 1) (c .bits-at .result)) link (s .i + 1)) × (a .first ≤ link)
 
 goes : (c : tie.After-bits-at Inv-loop μ-loop Inv-sets μ-sets)
     → (let head = c .before .before .before .before .before in let a = head .before .before .before .before .before .before .args in same (a .control .now) (fieldIn (a .d) 0 (drop (c .before .control-start .result) (a .body .now))) ≡ false) → Goes c
-goes c e = (c .before .before .before .before .before .sets .inv .0, omega (arith, small (c .before .before .before .before)), turn false c e)
+goes c e = (c .before .before .before .before .before .sets .inv .0, omega (arith, small (c .before .before .before .before)), turn false c e, omega (arith, c .before .before .before .before .before .sets .inv .3))
 
 sets-holds : tie.Need-sets-holds Inv-loop μ-loop Inv-sets μ-sets
 unfolding trees.search
-sets-holds c = (refl, omega arith, rw (c .bucket-of .ensures) refl)
+sets-holds c = (refl, omega arith, rw (c .bucket-of .ensures) refl, omega arith)
+
+sub-start-at : tie.Need-sub-start-at Inv-loop μ-loop Inv-sets μ-sets
+sub-start-at c = omega (arith, c .before .before .sets .inv .3)
 
 mul-slot : tie.Need-mul-slot Inv-loop μ-loop Inv-sets μ-sets
 mul-slot c = omega (arith, small (c .before .before .before))
@@ -144,7 +147,7 @@ sets-again-3 : tie.Need-sets-again-3 Inv-loop μ-loop Inv-sets μ-sets
 sets-again-3 c = goes (c .before .before .before .before .before) (compared (c .before) ∙ ne-eqb _ _ (c .if4 .taken))
 
 returns : tie.Need-returns Inv-loop μ-loop Inv-sets μ-sets
-returns c = sym (c .before .before .sets .inv .2 ∙ walk-ends _ _ _ _ _ _ _ _ _ (rw (c .before .link-at .ensures) at (c .if1 .taken)))
+returns c = sym (c .before .before .sets .inv .2 ∙ walk-ends _ _ _ _ _ _ _ _ _ _ (rw (c .before .link-at .ensures) at (c .if1 .taken)))
 
 returns-2 : tie.Need-returns-2 Inv-loop μ-loop Inv-sets μ-sets
 returns-2 c =
@@ -163,6 +166,7 @@ search-spec =
     sets-holds
     (λ c κs. search needs)
     (λ c. search needs)
+    sub-start-at
     (λ c κs. search needs)
     (λ c κs. search needs)
     mul-slot

@@ -1,7 +1,7 @@
--- `acknowledgment::response::add_closing` meets its contract: a row of pieces.
+-- `acknowledgment::response::add_closing` meets its contract: two segments.
 use Rattle.writing.proofs.Laws.{kept}
-use Rattle.acknowledgment.proofs.Responses.{four}
 use Rattle.acknowledgment.specs.Writers.{closing}
+use Rattle.acknowledgment.proofs.Transactions.{two}
 use borrow.Author.Needs.{needs}
 use Rattle.acknowledgment.proofs.response.add_closing.Statement.{statement}
 use Rattle.acknowledgment.proofs.response.add_closing.Tie as tie
@@ -10,20 +10,7 @@ returns : tie.Need-returns
 unfolding closing
 returns c =
     let iea = c .before .before in
-    let ge = iea .before .before .before .before in
-    let se = ge .before .before .before .before in
-    let ak9 = se .before .before .before .before .before .before in
-    four _ _ _ _ _ (ak9 .add-ak9 .ensures) (rw (se .before .before .joined .ensures) at (se .add-se .ensures)) (ge .add-ge .ensures) (iea .add-iea .ensures)
+    two _ _ _ (iea .before .before .before .before .add-ge .ensures) (iea .add-iea .ensures)
 
 pub add-closing-spec : {M : Type 1} → statement M
-add-closing-spec =
-    tie.close
-    (tie.spec
-    (λ c κs. search needs)
-    (λ c κs. search needs)
-    (λ c. search needs)
-    (λ c κs. search needs)
-    (λ c κs. search needs)
-    (λ c κs. search needs)
-    (λ c. kept (returns c))
-    returns)
+add-closing-spec = tie.close (tie.spec (λ c κs. search needs) (λ c κs. search needs) (λ c. kept (returns c)) returns)

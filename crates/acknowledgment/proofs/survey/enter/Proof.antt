@@ -38,6 +38,7 @@ enter-spec =
     (λ c. search needs)
     (λ c. search needs)
     (λ c. search needs)
+    (λ c. search needs)
     mul-links
     slice-write-links
     (λ c. search needs)

@@ -17,16 +17,16 @@ use Rattle.acknowledgment.proofs.survey.survey_sets.Statement.{statemen
 use Rattle.acknowledgment.proofs.survey.survey_sets.Tie as tie
 
 abbrev Inv-loop : tie.InvT-loop
-Inv-loop body reading valid directory rows starts₀ marks₀ links₀ d received₀ accepted₀ length₀ segments₀ at₀ starts marks links received accepted length segments at =
+Inv-loop body reading valid directory rows first starts₀ marks₀ links₀ d received₀ accepted₀ length₀ segments₀ at₀ starts marks links received accepted length segments at =
     let table = tableBy directory rows (reading .scope) in
-    (Seeing (reading .delimiters) table body starts marks links received accepted at)
+    (Seeing (reading .delimiters) table body first starts marks links received accepted at)
     × (Sofar (reading .delimiters) (reports (reading .delimiters) table body) [] [] length segments received)
     × (lists.length links ≡ lists.length links₀)
     × (lists.length starts ≡ lists.length starts₀)
     × (lists.length marks ≡ lists.length marks₀)
 
 abbrev μ-loop : tie.MeasureT-loop
-μ-loop body reading valid directory rows starts₀ marks₀ links₀ d received₀ accepted₀ length₀ segments₀ at₀ starts marks links received accepted length segments at = lists.length body + 1 - at
+μ-loop body reading valid directory rows first starts₀ marks₀ links₀ d received₀ accepted₀ length₀ segments₀ at₀ starts marks links received accepted length segments at = lists.length body + 1 - at
 
 loop-holds : tie.Need-loop-holds Inv-loop μ-loop
 loop-holds c =
@@ -42,7 +42,10 @@ set : (c : tie.In-loop Inv-loop μ-loop) → IsSet c
 set c = seeing-set (c .before .loop .inv .0) (c .loop-test .taken) refl
 
 abbrev HasRoom : tie.In-loop Inv-loop μ-loop → Type 0
-HasRoom c = let l = c .before .loop in (l .received < 5461) × ((l .received < lists.length (l .starts)) × (l .received < lists.length (l .marks)))
+HasRoom c =
+    let l = c .before .loop in
+    let a = c .before .before .before .before .before .before .before .args in
+    (a .first + l .received < 65534) × ((l .received < lists.length (l .starts)) × (l .received < lists.length (l .marks)))
 
 room : (c : tie.In-loop Inv-loop μ-loop) → HasRoom c
 room c = seeing-room (c .before .loop .inv .0) (set c)
