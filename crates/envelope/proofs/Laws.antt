@@ -19,7 +19,6 @@ use Rattle.rules.proofs.SetLaws.{isOuter, Optional, missing, there}
 use Rattle.segments.proofs.Pieces.{WholePart, whole-empty, whole-next, pieces-at, pieces-none, segments-at, segments-none, segments-rest, segments-part}
 use Rattle.segments.proofs.Fields.{field-first, field-at}
 use Rattle.text.specs.Text.{indexOf, part}
-use Rattle.text.proofs.Search.{find-end}
 use Rattle.envelope.specs.Places.{endOf, segmentAt, untilEnvelope, trailerAt, startAfter, bodyEnd, groupEnding, groupStarting, nextGroup, groupsEnd, envelopeEnding, envelopeTo, envelopeFrom, envelopeOf, trailerIn, groupAt}
 use Rattle.envelope.specs.declared.GroupAt.{GroupAt}
 use Rattle.envelope.specs.declared.NextGroup.{NextGroup}
@@ -35,9 +34,6 @@ use Rattle.envelope.proofs.Steps.{isGS, isIEA, groupsFrom, closes, IEA-
 
 -- 1. The segments from an offset on: the first, those after it, and whether there is one.
 module _ (d : Delimiters) (i : Bytes) (at : ℕ) where
-  end-within : at < length i → endOf d i at ≤ length i
-  end-within h = find-end (d .terminator) i at (endOf d i at) refl h
-
   segments-from : at < length i → segments d (drop at i) ≡ segmentAt d i at ∷ segments d (drop (endOf d i at + 1) i)
   unfolding segmentAt
   segments-from h = segments-at d i at (endOf d i at) h refl
@@ -81,16 +77,15 @@ module _ (d : Delimiters) (i : Bytes) (at : ℕ) where
 -- 2. What lies between an offset and the first segment of the envelope from it on.
 record Inside (d : Delimiters) (i : Bytes) (start at : ℕ) : Type 0 where
   whole : WholePart (d .terminator) i start at
-  near : at ≤ length i + 1
   outer : all isOuter (segments d (part i start at)) ≡ true
 
 record Stopped (d : Delimiters) (i : Bytes) (start at : ℕ) : Type 0 where
   passed : Inside d i start at
   stops : null (segments d (drop at i)) ≡ false → isEnvelope (getD (segments d (drop at i)) 0 []) ≡ true
 
-inside-empty : (d : Delimiters) (i : Bytes) (at : ℕ) → at ≤ length i + 1 → Inside d i at at
+inside-empty : (d : Delimiters) (i : Bytes) (at : ℕ) → Inside d i at at
 unfolding segments pieces all
-inside-empty d i at h = record { whole = whole-empty; near = h; outer = rw sub-self }
+inside-empty d i at = record { whole = whole-empty; outer = rw sub-self }
 
 some-within : (t : ℕ) (i : Bytes) (at : ℕ) (p : Bytes) (ps : List Bytes) → p ∷ ps ≡ pieces t (drop at i) → at < length i
 some-within t i at p ps q = go (ltb at (length i)) refl
@@ -105,7 +100,6 @@ module _ (d : Delimiters) (i : Bytes) (start : ℕ) where
   inside-next at h g w =
       record {
         whole = whole-next (w .whole) h refl;
-        near = omega (arith, end-within d i at h);
         outer = rw (segments-part d (w .whole) h refl) (all-append isOuter (segments d (part i start at)) _ (w .outer) (rw g));
       }
 
@@ -132,15 +126,14 @@ module _ (d : Delimiters) (i : Bytes) (start : ℕ) where
           (record { passed = w; stops = λ n. rw (segments-from d i at here) g })
       go false g next = rw (until-later (d .element) t i at (endOf d i at) here refl g) (next (inside-next at here g w))
 
-  stopped : start ≤ length i + 1 → Stopped d i start (bodyEnd d i start)
-  stopped h = walk (pieces (d .terminator) (drop start i)) start refl (inside-empty d i start h)
+  stopped : Stopped d i start (bodyEnd d i start)
+  stopped = walk (pieces (d .terminator) (drop start i)) start refl (inside-empty d i start)
 
 -- 3. GE or nothing, and what follows.
 record Trailed (d : Delimiters) (i : Bytes) (at : ℕ) (t : Trailer) : Type 0 where
   cut : segments d (drop at i) ≡ listed (trailerIn d i at (t .end) (t .closed)) ++ segments d (drop (t .next) i)
   named : Optional isGE (trailerIn d i at (t .end) (t .closed))
   onward : at ≤ t .next
-  near : at ≤ length i + 1 → t .next ≤ length i + 1
 
 trailed : (d : Delimiters) (i : Bytes) (at : ℕ) → Trailed d i at (trailerAt d i at)
 unfolding segmentAt same
@@ -154,11 +147,10 @@ trailed d i at = go (isGE (segmentAt d i at)) refl
           cut = segments-from d i at within;
           named = there g;
           onward = omega arith;
-          near = λ h. omega (arith, end-within d i at within);
         })
     go false g =
         rw (trailer-missing d i at (endOf d i at) refl g)
-        (record { cut = refl; named = missing; onward = omega arith; near = λ h. h })
+        (record { cut = refl; named = missing; onward = omega arith })
 
 -- without GE nothing was passed
 untrailed : (d : Delimiters) (i : Bytes) (at : ℕ) → trailerAt d i at .closed ≡ false → (trailerAt d i at .next ≡ at) × (isGE (segmentAt d i at) ≡ false)
@@ -178,7 +170,6 @@ pub record GroupFound (d : Delimiters) (i : Bytes) (at : ℕ) (g : GroupAt) : Ty
   pub body-after : g .body ≡ endOf d i at + 1
   pub body-ordered : g .body ≤ g .«body_end»
   pub body-before : g .«body_end» ≤ g .next
-  pub next-within : g .next ≤ length i + 1
   pub named : isGS (groupAt d i g .header) ≡ true
   pub inside : all isOuter (groupAt d i g .body) ≡ true
   pub closes : Optional isGE (groupAt d i g .trailer)
@@ -226,14 +217,11 @@ module _ (d : Delimiters) (i : Bytes) (at : ℕ) where
     body-at : startAfter d i at ≡ endOf d i at + 1
     body-at = rw (lt-ltb at (length i) gs-within)
 
-    body-within : startAfter d i at ≤ length i + 1
-    body-within = omega (arith, body-at, end-within d i at gs-within)
-
     found : GroupFound d i at (groupStarting d i at)
     unfolding groupStarting groupEnding segmentAt
     found =
         let body = startAfter d i at in
-        let s = stopped d i body body-within in
+        let s = stopped d i body in
         let t = trailed d i (bodyEnd d i body) in
         record {
           starts = refl;
@@ -242,7 +230,6 @@ module _ (d : Delimiters) (i : Bytes) (at : ℕ) where
           body-after = body-at;
           body-ordered = s .passed .whole .ordered;
           body-before = t .onward;
-          next-within = t .near (s .passed .near);
           named = g;
           inside = s .passed .outer;
           closes = t .named;
@@ -288,7 +275,7 @@ module _ (d : Delimiters) (i : Bytes) (at : ℕ) where
       let f = found-by p in
       let body = startAfter d i at in
       let t = untrailed d i (bodyEnd d i body) (sym (ap (λ (x : GroupAt). x .closed) (f .1)) ∙ c) in
-      rw (f .1, t .0) (stopped d i body (body-within (f .0)) .stops, named-at d i (bodyEnd d i body) (ascii "GE") ∙ t .1)
+      rw (f .1, t .0) (stopped d i body .stops, named-at d i (bodyEnd d i body) (ascii "GE") ∙ t .1)
 
 -- 5. The groups from a step on, one after the other; something follows the last.
 pub data Groups (d : Delimiters) (i : Bytes) : NextGroup → List Group → Type 0 where
