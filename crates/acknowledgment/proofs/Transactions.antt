@@ -57,12 +57,12 @@ two d s₁ s₂ a b = seq a (one d s₂ b)
 
 -- 2. The group, by the bytes of its GS, its body and its GE.
 group-at : (d : Delimiters) (i : Bytes) (g : GroupAt) {gs body ge : Bytes}
-    → gs ≡ part i (g .gs) (g .«gs_end») → body ≡ part i (g .body) (g .«body_end») → ge ≡ part i (g .ge) (g .«ge_end»)
+    → gs ≡ part i (g .gs) (g .«gs_end») → body ≡ part i (g .body) (g .«body_end») → ge ≡ part i (g .«body_end») (g .«ge_end»)
     → groupAt d i g
     ≡ record { header = split (d .element) gs; body = segments d body; trailer = trailerIf (g .closed) (split (d .element) ge) }
 group-at d i g p q r = rw (p, q, r, trailer-at (g .closed))
   where
-    trailer-at : (c : Bool) → trailerIn d i (g .ge) (g .«ge_end») c ≡ trailerIf c (split (d .element) (part i (g .ge) (g .«ge_end»)))
+    trailer-at : (c : Bool) → trailerIn d i (g .«body_end») (g .«ge_end») c ≡ trailerIf c (split (d .element) (part i (g .«body_end») (g .«ge_end»)))
     trailer-at true = refl
     trailer-at false = refl
 
@@ -78,7 +78,7 @@ told-is d st02 g {table} n k e p q = rw (k, e, q, p, reports-count d table [] (s
 -- 3. Its 997.
 module _ (d : Delimiters) (i : Bytes) (g : GroupAt) {gs body ge : Bytes} {tally : Tally} {scope : Scope} {summary : Summary}
     (short : length i ≤ 65536)
-    (p : gs ≡ part i (g .gs) (g .«gs_end»)) (q : body ≡ part i (g .body) (g .«body_end»)) (r : ge ≡ part i (g .ge) (g .«ge_end»))
+    (p : gs ≡ part i (g .gs) (g .«gs_end»)) (q : body ≡ part i (g .body) (g .«body_end»)) (r : ge ≡ part i (g .«body_end») (g .«ge_end»))
     (k : scope ≡ scopeIn (split (d .element) gs))
     (received : tally .received ≡ length (reports d (tableOf d i g) body)) (allowed : tally .accepted ≡ acceptedIn (reports d (tableOf d i g) body))
     (u : summary ≡ summaryOf scope (split (d .element) gs) (trailerIf (g .closed) (split (d .element) ge)) tally) where
@@ -176,7 +176,7 @@ module _ {d : Delimiters} {i : Bytes} {g : GroupAt} {valid : List Bool} {ids : L
         let few = surveyed .looked .received ∙ reports-count d (tableOf d i g) [] (setsOf (segments d (bodyOf i g))) in
         (omega (arith, few, s .cleared .places), omega (arith, few, s .cleared .marked))
 
-    pub surveyed-group : {ge : Bytes} {summary : Summary} {l : ℕ} → length starts′ ≡ length starts → length marks′ ≡ length marks → ge ≡ part i (g .ge) (g .«ge_end»)
+    pub surveyed-group : {ge : Bytes} {summary : Summary} {l : ℕ} → length starts′ ≡ length starts → length marks′ ≡ length marks → ge ≡ part i (g .«body_end») (g .«ge_end»)
         → summary ≡ summaryOf scope (split (d .element) gs) (trailerIf (g .closed) (split (d .element) ge)) (survey .sets)
         → ((ss : List Segment) → Measures d ss (survey .blocks)
         → l ≡ sat (length (out d (beginning (split (d .element) gs) 1 ++ (ss ++ ending summary (sat (survey .blocks .segments + 4)) 1)))))
@@ -221,7 +221,7 @@ module _ {d : Delimiters} {i : Bytes} {g : GroupAt} {sets : Tally} {starts marks
     pub sets-looked : (Looked d (tableBy ids rows scope) body starts marks (sets .received)) × Scoped rows scope
     sets-looked = (rw (x, y, k, p, q) (e .looked), rw (y, k) (table-stands _))
 
-    pub group-written : {ge : Bytes} {summary : Summary} (r : ge ≡ part i (g .ge) (g .«ge_end»)) (n : ℕ) {m n₀ n₁ n₂ n₃ : ℕ} {o o₁ o₂ o₃ : Bytes}
+    pub group-written : {ge : Bytes} {summary : Summary} (r : ge ≡ part i (g .«body_end») (g .«ge_end»)) (n : ℕ) {m n₀ n₁ n₂ n₃ : ℕ} {o o₁ o₂ o₃ : Bytes}
         → summary ≡ summaryOf scope (split (d .element) gs) (trailerIf (g .closed) (split (d .element) ge)) sets
         → m ≡ sat (length (blocks (reports d (tableBy ids rows scope) body)))
         → From n₀ (out d (beginning (split (d .element) gs) n)) n₁ o o₁ → From n₁ (out d (blocks (reports d (tableBy ids rows scope) body))) n₂ o₁ o₂

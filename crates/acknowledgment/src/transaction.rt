@@ -93,7 +93,7 @@ pub(crate) fn survey_group(
 {
     let gs = text::part(i, group.gs, group.gs_end);
     let body = text::part(i, group.body, group.body_end);
-    let ge = text::part(i, group.ge, group.ge_end);
+    let ge = text::part(i, group.body_end, group.ge_end);
     let scope = guides::scope_of(gs, d);
     let reading = Reading {
         delimiters: d,
@@ -198,7 +198,7 @@ pub(crate) fn add_transaction(
     let group = envelope::group_ending(i, d, progress.at, body_end);
     let gs = text::part(i, group.gs, group.gs_end);
     let body = text::part(i, group.body, group.body_end);
-    let ge = text::part(i, group.ge, group.ge_end);
+    let ge = text::part(i, group.body_end, group.ge_end);
     let scope = guides::scope_of(gs, d);
     let reading = Reading {
         delimiters: d,

@@ -178,7 +178,7 @@ pub record GroupFound (d : Delimiters) (i : Bytes) (at : ℕ) (g : GroupAt) : Ty
 
 -- a trailer that is there is GE
 ge-named : (d : Delimiters) (i : Bytes) (g : GroupAt) → Optional isGE (groupAt d i g .trailer) → g .closed ≡ true
-    → isGE (split (d .element) (part i (g .ge) (g .«ge_end»))) ≡ true
+    → isGE (split (d .element) (part i (g .«body_end») (g .«ge_end»))) ≡ true
 ge-named d i g o q = named-one (rw q at o)
   where
     named-one : {s : Segment} → Optional isGE (some s) → isGE s ≡ true
@@ -296,7 +296,7 @@ module _ (d : Delimiters) (i : Bytes) where
   module _ (at : ℕ) {g : GroupAt} (p : nextGroup d i at ≡ Found g) where
     found-cut : (c : Bool) → g .closed ≡ c
         → segments d (drop at i)
-        ≡ groupAt d i g .header ∷ (groupAt d i g .body ++ (listed (trailerIn d i (g .ge) (g .«ge_end») c) ++ segments d (drop (g .next) i)))
+        ≡ groupAt d i g .header ∷ (groupAt d i g .body ++ (listed (trailerIn d i (g .«body_end») (g .«ge_end») c) ++ segments d (drop (g .next) i)))
     found-cut c q = next-found d i at p .cut ∙ rw q
 
     found-full : closes 0 (segments d (drop at i)) ≡ false
@@ -396,7 +396,7 @@ module _ (d : Delimiters) (i : Bytes) where
         go [] e = absurd (false≢true (ap (λ (t : List Segment). isIEA (last [] t)) (sym e) ∙ ap isIEA (r .trailer) ∙ named))
         go (z ∷ zs) e =
             let f = next-found d i at p in
-            let ge = split (d .element) (part i (g .ge) (g .«ge_end»)) in
+            let ge = split (d .element) (part i (g .«body_end») (g .«ge_end»)) in
             let cut : segments d (drop at i) ≡ gs ∷ (xs ++ ge ∷ (z ∷ zs)) = found-cut at p true q ∙ rw e in
             let more : groupsFrom (segments d (drop at i)) ≡ groupAt d i g ∷ groupsFrom (segments d (drop (g .next) i)) =
             ap groupsFrom cut ∙ closed-groups gs xs (f .named) (f .inside) ge (ge-named d i g (f .closes) q) z zs ∙ rw (q, e) in

@@ -55,7 +55,6 @@ groupEnding d i at body-end =
       «gs_end» = endOf d i at;
       body = startAfter d i at;
       «body_end» = body-end;
-      ge = body-end;
       «ge_end» = trailer .end;
       closed = trailer .closed;
       next = trailer .next;
@@ -112,5 +111,5 @@ abbrev pub groupAt : Delimiters → Bytes → GroupAt → Group
 groupAt d i g = record {
   header = split (d .element) (part i (g .gs) (g .«gs_end»));
   body = segments d (part i (g .body) (g .«body_end»));
-  trailer = trailerIn d i (g .ge) (g .«ge_end») (g .closed);
+  trailer = trailerIn d i (g .«body_end») (g .«ge_end») (g .closed);
 }

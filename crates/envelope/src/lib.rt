@@ -18,13 +18,13 @@ use rules::ISA;
 const IEA01_DIGITS: usize = 5;
 
 // The place of a group, as offsets: each part starts at one and ends before the other.
-// The body holds the terminator of its last segment; where GE is missing, its part is empty. The next group, or IEA, is due at `next`.
+// The body holds the terminator of its last segment. GE starts where the body ends; where it is missing, its part is empty.
+// The next group, or IEA, is due at `next`.
 pub struct GroupAt {
     pub gs: usize,
     pub gs_end: usize,
     pub body: usize,
     pub body_end: usize,
-    pub ge: usize,
     pub ge_end: usize,
     pub closed: bool,
     pub next: usize,
@@ -164,7 +164,6 @@ pub fn group_ending(i: &[u8], d: Delimiters, at: usize, body_end: usize) -> Grou
         gs_end,
         body,
         body_end,
-        ge: body_end,
         ge_end: trailer.end,
         closed: trailer.closed,
         next: trailer.next,
