@@ -32,6 +32,7 @@ use Rattle.envelope.proofs.Places.{part-past}
 use Rattle.envelope.proofs.Laws.{EnvelopeIs, found-starts, whole-is, broken-is}
 use Rattle.sets.specs.Places.{bodyFrom, setsChecked}
 use Rattle.sets.specs.declared.SetsCheck.the-variants as checks
+use Rattle.sets.proofs.Refused.{sets-sound, sets-refused}
 use Rattle.refusals.specs.Checks.{headChecked, faultRefusal, checkBy, soundBut, placedBut, trailerCheck, envelopeCheck, groupCheck}
 use Rattle.refusals.specs.declared.EnvelopeFault.{EnvelopeFault}
 use Rattle.refusals.specs.declared.EnvelopeFault.the-variants.{NotTerminated, OutOfPlace, NotTwoElements, OtherControl, OtherCount}
@@ -192,24 +193,6 @@ module _ (d : Delimiters) (i : Bytes) where
       go false p = let z = rw p at q in let z : _≡_ {A = ℕ} 0 1 = cc in absurd (omega arith)
 
 -- 4. Refusals 9 to 13.
--- what a check of sets says
-module _ (d : Delimiters) (i : Bytes) (at : ℕ) where
-  sets-sound : {end : ℕ} → setsChecked d i at ≡ checks.Sound end → (first (setRules d (bodyFrom d i at)) ≡ 0) × (end ≡ bodyEnd d i at)
-  unfolding setsChecked
-  sets-sound {end} e = go (eqb (first (setRules d (bodyFrom d i at))) 0) refl
-    where
-      go : (b : Bool) → eqb (first (setRules d (bodyFrom d i at))) 0 ≡ b → (first (setRules d (bodyFrom d i at)) ≡ 0) × (end ≡ bodyEnd d i at)
-      go true p = (eqb-true _ 0 p, cc (rw p at e))
-      go false p = let z = rw p at e in let z : _≡_ {A = ℕ} 0 1 = cc in absurd (omega arith)
-
-  sets-refused : {n : ℕ} → setsChecked d i at ≡ checks.Refused n → (n ≡ first (setRules d (bodyFrom d i at))) × (n ≡ 0 → ⊥)
-  unfolding setsChecked
-  sets-refused {n} e = go (eqb (first (setRules d (bodyFrom d i at))) 0) refl
-    where
-      go : (b : Bool) → eqb (first (setRules d (bodyFrom d i at))) 0 ≡ b → (n ≡ first (setRules d (bodyFrom d i at))) × (n ≡ 0 → ⊥)
-      go true p = let z = rw p at e in let z : _≡_ {A = ℕ} 0 1 = cc in absurd (omega arith)
-      go false p = let q : n ≡ first (setRules d (bodyFrom d i at)) = cc (rw p at e) in (q, λ z. eqb-false _ 0 p (sym q ∙ z))
-
 -- the group whose GS starts at an offset, by its GS, which was read
 module _ (d : Delimiters) (i : Bytes) (at : ℕ) where
   abbrev group : Group
@@ -270,7 +253,7 @@ module _ (d : Delimiters) (i : Bytes) (at : ℕ) where
           pub none-refuses : {to : ℕ} {g : GroupAt} → setsChecked d i (end + 1) ≡ checks.Sound to → g ≡ groupEnding d i at to → groups.Sound g ≡ groupCheck d i at
           none-refuses s e =
               let sound = sets-sound d i (end + 1) s in
-              ap groups.Sound (e ∙ ap (groupEnding d i at) (sound .1) ∙ sym starting) ∙ passed-by (sym (group-by (sym (sound .0))))
+              ap groups.Sound (e ∙ ap (groupEnding d i at) (sound .0) ∙ sym starting) ∙ passed-by (sym (group-by (sym (sound .1))))
 
   -- what the check says of a group that was found
   module _ {g : GroupAt} (f : nextGroup d i at ≡ Found g) where

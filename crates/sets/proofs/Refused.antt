@@ -1,5 +1,5 @@
 -- Refusals 11 to 13, set by set: what a walk over the sets knows of them so far, and what is left to decide.
-use mathlib.Core.Path.{_≡_, refl, sym, _∙_, subst⁻¹}
+use mathlib.Core.Path.{_≡_, refl, sym, _∙_, subst}
 use mathlib.Core.Bool.{Bool, true, false, _&&_, not}
 use mathlib.Core.List.{List, [], _∷_}
 use Prim.Native.Nat.{ℕ, _+_, _<_, _≤_}
@@ -131,11 +131,11 @@ module _ (d : Delimiters) (i : Bytes) (at : ℕ) where
       go true p = rw p (refl, eqb-true _ _ p)
       go false p = rw p (refl, eqb-false _ _ p)
 
-  pub sets-sound : {end : ℕ} → Sound end ≡ setsChecked d i at → (end ≡ bodyEnd d i at) × (first (setRules d (bodyFrom d i at)) ≡ 0)
-  sets-sound p = subst⁻¹ (Tells d i at) p tells
+  pub sets-sound : {end : ℕ} → setsChecked d i at ≡ Sound end → (end ≡ bodyEnd d i at) × (first (setRules d (bodyFrom d i at)) ≡ 0)
+  sets-sound p = subst (Tells d i at) p tells
 
-  pub sets-refused : {n : ℕ} → Refused n ≡ setsChecked d i at → (n ≡ first (setRules d (bodyFrom d i at))) × (n ≡ 0 → ⊥)
-  sets-refused p = subst⁻¹ (Tells d i at) p tells
+  pub sets-refused : {n : ℕ} → setsChecked d i at ≡ Refused n → (n ≡ first (setRules d (bodyFrom d i at))) × (n ≡ 0 → ⊥)
+  sets-refused p = subst (Tells d i at) p tells
 
 -- what holds of a group that is not refused
 pub record Passed (d : Delimiters) (ss : List Segment) : Type 0 where
