@@ -165,7 +165,6 @@ untrailed d i at c = go (isGE (segmentAt d i at)) refl
 -- A group was found at an offset: its parts lie one after the other, they are what is cut there, and the next may stand where it ends.
 pub record GroupFound (d : Delimiters) (i : Bytes) (at : ℕ) (g : GroupAt) : Type 0 where
   pub starts : g .gs ≡ at
-  pub within : at < length i
   pub header-before : at + 3 ≤ g .body
   pub body-after : g .body ≡ endOf d i at + 1
   pub body-ordered : g .body ≤ g .«body_end»
@@ -225,7 +224,6 @@ module _ (d : Delimiters) (i : Bytes) (at : ℕ) where
         let t = trailed d i (bodyEnd d i body) in
         record {
           starts = refl;
-          within = gs-within;
           header-before = omega (arith, gs-long, body-at);
           body-after = body-at;
           body-ordered = s .passed .whole .ordered;

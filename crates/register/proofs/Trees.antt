@@ -14,7 +14,7 @@ use Rattle.text.proofs.Loops.{left-cons}
 use Rattle.sets.specs.Places.{controlAt}
 use Rattle.register.specs.declared.Found.{Found}
 use Rattle.register.specs.declared.Found.the-variants.{Repeated, Free}
-use Rattle.register.specs.Trees.{bucketFrom, bucketOf, bitsAt, slotOf, foundAt, walk, search}
+use Rattle.register.specs.Trees.{bucketFrom, bucketOf, bitsAt, slotOf, foundAt, walk}
 
 -- 1. Buckets and bits.
 -- the bucket of the bytes that are left

@@ -140,11 +140,10 @@ module _ (d : Delimiters) (i : Bytes) (at : ℕ) where
 -- what holds of a group that is not refused
 pub record Passed (d : Delimiters) (ss : List Segment) : Type 0 where
   pub clean : outside ss ≡ false
-  pub some : null (setsOf ss) ≡ false
   pub headers : good d (setsOf ss) ≡ true
 
 pub passed : (d : Delimiters) (ss : List Segment) → first (setRules d ss) ≡ 0 → Passed d ss
 unfolding setRules
 passed d ss e =
     let s = silent (setRules d ss) tt e in
-    record { clean = s .0; some = s .1 .0; headers = not-false _ (s .1 .1 .0) }
+    record { clean = s .0; headers = not-false _ (s .1 .1 .0) }

@@ -15,7 +15,6 @@ use Rattle.rules.specs.declared.Delimiters.{Delimiters}
 use Rattle.rules.proofs.Logic.{or-left}
 use Rattle.rules.proofs.SetLaws.{SE-ST}
 use Rattle.text.specs.Text.{indexOf}
-use Rattle.text.proofs.Search.{find-end}
 use Rattle.segments.proofs.Pieces.{WholePart, whole-empty, whole-next, segments-at, segments-none, segments-new, segments-part}
 use Rattle.sets.specs.Places.{closedAt, unclosedAt, setFrom, setAt, controlAt}
 use Rattle.sets.specs.declared.SetAt.{SetAt}
@@ -42,7 +41,6 @@ record Follows (d : Delimiters) (body : Bytes) (start header n at : ℕ) (r : Se
   headed : r .header ≡ header
   counted : r .segments ≡ n + length (bodyOf (segments d (drop at body)) ++ listed (trailerOf (segments d (drop at body))))
   onward : at ≤ r .end
-  within : r .end ≤ length body + 1
 
 module _ (d : Delimiters) (body : Bytes) (start header : ℕ) where
   -- the set goes on at a place
@@ -52,9 +50,9 @@ module _ (d : Delimiters) (body : Bytes) (start header : ℕ) where
   abbrev Goes : ℕ → ℕ → Type 0
   Goes n at = Follows d body start header n at (from n at)
 
-  follows-none : (n at : ℕ) → length body ≤ at → at ≤ length body + 1 → Follows d body start header n at (unclosedAt start header n at)
+  follows-none : (n at : ℕ) → length body ≤ at → Follows d body start header n at (unclosedAt start header n at)
   unfolding bodyOf trailerOf outside
-  follows-none n at k l = record {
+  follows-none n at k = record {
     others = refl;
     whole = rw (segments-none d body at k) (sym (append-nil _));
     trailer = rw (segments-none d body at k);
@@ -63,7 +61,6 @@ module _ (d : Delimiters) (body : Bytes) (start header : ℕ) where
     headed = refl;
     counted = rw (segments-none d body at k) (omega arith);
     onward = omega arith;
-    within = l;
   }
 
   module _ (n at end : ℕ) (h : at < length body) (q : end ≡ at + indexOf (d .terminator) (drop at body)) (w : WholePart (d .terminator) body start at) where
@@ -84,7 +81,6 @@ module _ (d : Delimiters) (body : Bytes) (start header : ℕ) where
           headed = refl;
           counted = rw (segments-at d body at end h q, g, p);
           onward = omega arith;
-          within = let l = find-end (d .terminator) body at end q h in omega arith;
         }
 
     follows-ST : isSE here ≡ false → isST here ≡ true → Follows d body start header n at (unclosedAt start header n at)
@@ -98,7 +94,6 @@ module _ (d : Delimiters) (body : Bytes) (start header : ℕ) where
       headed = refl;
       counted = rw (segments-at d body at end h q, p, g) (omega arith);
       onward = omega arith;
-      within = omega arith;
     }
 
     follows-other : isSE here ≡ false → isST here ≡ false → (r : SetAt) → Follows d body start header (n + 1) (end + 1) r → Follows d body start header n at r
@@ -112,7 +107,6 @@ module _ (d : Delimiters) (body : Bytes) (start header : ℕ) where
       headed = f .headed;
       counted = rw (segments-at d body at end h q, p, g) (omega (arith, f .counted));
       onward = omega (arith, f .onward);
-      within = f .within;
     }
 
     follows-here : (se st : Bool) → isSE here ≡ se → isST here ≡ st → Goes (n + 1) (end + 1) → Goes n at
@@ -121,24 +115,23 @@ module _ (d : Delimiters) (body : Bytes) (start header : ℕ) where
     follows-here false false p g f =
         rw (set-goes (d .terminator) body at end h q (d .element) start header n false false p g) (follows-other p g (from (n + 1) (end + 1)) f)
 
-  goes-none : (n at : ℕ) → length body ≤ at → at ≤ length body + 1 → Goes n at
-  goes-none n at k l = rw (set-ends (d .terminator) body at k (d .element) start header n) (follows-none n at k l)
+  goes-none : (n at : ℕ) → length body ≤ at → Goes n at
+  goes-none n at k = rw (set-ends (d .terminator) body at k (d .element) start header n) (follows-none n at k)
 
-  goes : (fuel n at : ℕ) → length body ≤ at + fuel → at ≤ length body + 1 → WholePart (d .terminator) body start at → Goes n at
-  goes zero n at k l w = goes-none n at (omega arith) l
-  goes (suc fuel) n at k l w = go (ltb at (length body)) refl (goes fuel)
+  goes : (fuel n at : ℕ) → length body ≤ at + fuel → WholePart (d .terminator) body start at → Goes n at
+  goes zero n at k w = goes-none n at (omega arith)
+  goes (suc fuel) n at k w = go (ltb at (length body)) refl (goes fuel)
     where
       end : ℕ
       end = at + indexOf (d .terminator) (drop at body)
 
       go : (c : Bool) → ltb at (length body) ≡ c
-          → ((m next : ℕ) → length body ≤ next + fuel → next ≤ length body + 1 → WholePart (d .terminator) body start next → Goes m next) → Goes n at
+          → ((m next : ℕ) → length body ≤ next + fuel → WholePart (d .terminator) body start next → Goes m next) → Goes n at
       go true c f =
           let h = ltb-true at (length body) c in
-          let i = find-end (d .terminator) body at end refl h in
           follows-here n at end h refl w (isSE (here n at end h refl w)) (isST (here n at end h refl w)) refl refl
-          (f (n + 1) (end + 1) (omega arith) (omega arith) (whole-next w h refl))
-      go false c f = goes-none n at (ltb-false at (length body) c) l
+          (f (n + 1) (end + 1) (omega arith) (whole-next w h refl))
+      go false c f = goes-none n at (ltb-false at (length body) c)
 
 -- 2. The set at a place.
 -- the set that a place in the bytes names
@@ -163,7 +156,6 @@ pub record SetIs (d : Delimiters) (body : Bytes) (at : ℕ) (r : SetAt) : Type 0
   pub strays : outside (segments d (drop at body)) ≡ outside (segments d (drop (r .end) body))
   pub starts : r .start ≡ at
   pub onward : at < r .end
-  pub within : r .end ≤ length body + 1
 
 -- segments of which none is outside every set start with a header
 pub clean-starts : (s : Segment) (ss : List Segment) → outside (s ∷ ss) ≡ false → isST s ≡ true
@@ -174,9 +166,8 @@ module _ (d : Delimiters) (body : Bytes) (at : ℕ) (r : SetAt) (h : at < length
   opened : Follows d body at (at + indexOf (d .terminator) (drop at body)) 1 (at + indexOf (d .terminator) (drop at body) + 1) r
   opened =
       let end = at + indexOf (d .terminator) (drop at body) in
-      let i = find-end (d .terminator) body at end refl h in
       rw (q, set-opens d body at end h refl)
-      (goes d body at end (length body) 1 (end + 1) (omega arith) (omega arith) (whole-next whole-empty h refl))
+      (goes d body at end (length body) 1 (end + 1) (omega arith) (whole-next whole-empty h refl))
 
   after : Follows d body at (r .header) 1 (r .header + 1) r
   after = subst⁻¹ (λ (n : ℕ). Follows d body at n 1 (n + 1) r) (opened .headed) opened
@@ -205,7 +196,6 @@ module _ (d : Delimiters) (body : Bytes) (at : ℕ) (r : SetAt) (h : at < length
     strays = rw (header-at, st) (after .strays);
     starts = after .starts;
     onward = omega (arith, after .onward, opened .headed);
-    within = after .within;
   }
 
   -- where no segment is outside every set, a set starts at the place
