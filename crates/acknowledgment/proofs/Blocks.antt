@@ -1,6 +1,6 @@
 -- The block of a set: its notes, its codes and its segments, as written, are those that document 01 reports of the set at a place.
 use mathlib.Core.Path.{_≡_, refl, sym, ap, _∙_, subst⁻¹}
-use mathlib.Core.Bool.{Bool, true, false, _&&_, not, Bool·not-not}
+use mathlib.Core.Bool.{Bool, true, false, not, Bool·not-not}
 use mathlib.Core.List.{List, [], _∷_, _++_, map, append-nil, append-assoc}
 use mathlib.Core.Option.{Option, none, some}
 use Prim.Native.Nat.{ℕ, _+_, _-_, _<_}
@@ -35,7 +35,7 @@ use Rattle.findings.specs.Events.{flat, written}
 use Rattle.findings.specs.Remaining.{events, remaining}
 use Rattle.findings.specs.Steps.{start}
 use Rattle.findings.proofs.Linked.{walk-notes}
-use Rattle.findings.proofs.Told.{written-flat, null-flat}
+use Rattle.findings.proofs.Told.{written-flat}
 use Rattle.writing.specs.Over.{sat, Wrote, From}
 use Rattle.writing.proofs.Over.{over-nil}
 use Rattle.writing.proofs.Laws.{whole}

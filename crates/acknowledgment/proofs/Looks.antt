@@ -3,11 +3,10 @@ use mathlib.Core.Path.{_≡_, refl, sym, ap, _∙_}
 use mathlib.Core.Bool.{Bool, true, false, _&&_, and-true, and-false, not, false≢true}
 use mathlib.Core.List.{List, [], _∷_}
 use mathlib.Core.Option.{Option, none, some}
-use Prim.Native.Nat.{ℕ, _+_, _-_, _<_, _≤_}
+use Prim.Native.Nat.{ℕ, _+_, _-_}
 use native.Mathlib.Omega.{arith}
-use lib.Dec.{eqb}
-use lib.ListN.{length, take, drop}
-use Rattle.rules.specs.Base.{Bytes, Rule, _⇒_, every, null, any, isNone, holds, same, member, if_then_else_}
+use lib.ListN.{length, drop}
+use Rattle.rules.specs.Base.{Bytes, _⇒_, every, null, any, isNone, holds, same, member, if_then_else_}
 use Rattle.rules.specs.Cutting.{Segment, field, split}
 use Rattle.rules.specs.Numbers.{declares}
 use Rattle.rules.specs.Tables.{Table}
@@ -17,19 +16,17 @@ use Rattle.rules.specs.Response.{block}
 use Rattle.rules.specs.declared.Delimiters.{Delimiters}
 use Rattle.tables.specs.Rows.{tableOf}
 use Rattle.tables.specs.Reading.{Guide, Limits, Orderly}
-use Rattle.guides.specs.Choice.{placeOf, rowsAt, tableAt}
+use Rattle.guides.specs.Choice.{placeOf, rowsAt}
 use Rattle.guides.specs.declared.Scope.{Scope}
-use Rattle.guides.specs.declared.TableAt.{TableAt}
 use Rattle.guides.specs.declared.TableAt.the-variants.{Rows, Nowhere}
 use Rattle.text.specs.Text.{indexOf, part}
-use Rattle.sets.specs.Places.{setAt, controlAt}
+use Rattle.sets.specs.Places.{setAt}
 use Rattle.sets.specs.declared.SetAt.{SetAt}
-use Rattle.sets.proofs.Sets.{SetIs, setIn, trailerIn}
+use Rattle.sets.proofs.Sets.{SetIs}
 use Rattle.rules.proofs.Logic.{and-left, and-right}
 use Rattle.findings.proofs.Told.{null-flat}
 use Rattle.findings.specs.Remaining.{events, remaining}
 use Rattle.findings.specs.Steps.{start}
-use Rattle.look.specs.Bytes.{validBytes}
 use Rattle.look.specs.Looking.{looked}
 use Rattle.look.proofs.Looking.{look-is}
 use Rattle.look.specs.declared.Look.the-variants.{Quiet, Odd}

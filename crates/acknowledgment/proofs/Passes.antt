@@ -1,7 +1,7 @@
 -- The two passes over the groups of an interchange: what holds after some of them.
 use Prim.Native.Nat.{ℕ, _+_, _-_, _*_, _≤_, _<_}
 use mathlib.Core.Path.{_≡_, refl, sym, ap, _∙_}
-use mathlib.Core.Bool.{Bool, true, false, _&&_, false≢true}
+use mathlib.Core.Bool.{Bool, _&&_, false≢true}
 use mathlib.Core.List.{List, [], _∷_, _++_, map, append-nil}
 use native.Mathlib.Nat.{add-assoc}
 use native.Mathlib.Omega.{arith}
@@ -9,7 +9,7 @@ use borrow.Rule.Slice.PartMut.{midOf, putMid}
 use borrow.Author.Tests.{leb-true, ne-eqb}
 use lib.Dec.{leb}
 use lib.ListN.{length, take, drop, length-take, length-drop, length-append, drop-of-length-le}
-use lib.Seq.{take-all, take-at, drop-at, length-take-le}
+use lib.Seq.{take-at, drop-at, length-take-le}
 use Rattle.rules.specs.Base.{Bytes, ascii, null, all, last, between, first}
 use Rattle.rules.specs.Cutting.{isNamed, segments}
 use Rattle.rules.specs.Sets.{setsOf}
@@ -44,7 +44,7 @@ use Rattle.acknowledgment.specs.Entries.{bodyOf, tableOf, transactionOf,
 use Rattle.acknowledgment.specs.declared.transaction.GroupSurvey.{GroupSurvey}
 use Rattle.acknowledgment.specs.declared.transaction.Progress.{Progress}
 use Rattle.acknowledgment.proofs.Headers.{drop-take}
-use Rattle.acknowledgment.proofs.Recorded.{take-less, group-stays}
+use Rattle.acknowledgment.proofs.Recorded.{part-all, take-less, group-stays}
 
 -- 1. The next group of those that are left.
 -- It is at g, which starts at an offset.
@@ -74,10 +74,7 @@ next-of no-group e h = absurd (omega arith)
 next-of (a-group {g} {gs} within steps) e h = record { group = g; next = record { rest = gs; found = e; is = refl; within = within; steps = steps } }
 
 -- 2. Lists that agree up to some entry.
--- the part of a list from k on, and the list with another one there
-mid-rest : (k : ℕ) (xs : List ℕ) → midOf k (length xs - k) xs ≡ drop k xs
-mid-rest k xs = take-all (length xs - k) (drop k xs) (simp length-drop (omega arith))
-
+-- a list with another one from k on
 put-rest : (k : ℕ) (xs ys : List ℕ) → putMid k (length xs - k) xs ys ≡ take k xs ++ ys
 put-rest k xs ys =
     ap (λ (l : List ℕ). take k xs ++ (ys ++ l)) (drop-of-length-le (drop k xs) {i = length xs - k} (simp length-drop (omega arith)))
@@ -229,8 +226,8 @@ module _ {d : Delimiters} {i : Bytes} {e : Envelope} {size : ℕ} {starts marks 
       tables = r;
       cleared = record {
         none = s .linked;
-        places = rw (mid-rest entries starts, length-drop) (omega (arith, room-left, s .stored));
-        marked = rw (mid-rest entries marks, length-drop) (omega (arith, room-left, s .marked));
+        places = rw (part-all entries starts, length-drop) (omega (arith, room-left, s .stored));
+        marked = rw (part-all entries marks, length-drop) (omega (arith, room-left, s .marked));
         linked = omega (arith, room-left, s .slots);
         few = omega (arith, room-left, s .few);
       };
@@ -258,8 +255,8 @@ module _ {d : Delimiters} {i : Bytes} {e : Envelope} {size : ℕ} {starts marks 
         let k = entries + r .entries in
         let ks : entries ≤ length starts = omega (arith, room-left, s .stored) in
         let km : entries ≤ length marks = omega (arith, room-left, s .marked) in
-        let ls : length s′ ≡ length starts - entries = p₁ ∙ ap length (mid-rest entries starts) ∙ length-drop entries starts in
-        let lm : length m′ ≡ length marks - entries = p₂ ∙ ap length (mid-rest entries marks) ∙ length-drop entries marks in
+        let ls : length s′ ≡ length starts - entries = p₁ ∙ ap length (part-all entries starts) ∙ length-drop entries starts in
+        let lm : length m′ ≡ length marks - entries = p₂ ∙ ap length (part-all entries marks) ∙ length-drop entries marks in
         let starts′ = putMid entries (length starts - entries) starts s′ in
         let marks′ = putMid entries (length marks - entries) marks m′ in
         record {

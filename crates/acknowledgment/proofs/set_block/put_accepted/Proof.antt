@@ -1,6 +1,5 @@
 -- `acknowledgment::set_block::put_accepted` meets its contract: AK2 and AK5, with ST01 and ST02 of the header.
 use mathlib.Core.Path.{_∙_, sym}
-use Rattle.sets.proofs.Sets.{SetIs}
 use Rattle.acknowledgment.proofs.Blocks.{acceptance-written}
 use Rattle.acknowledgment.proofs.Looks.{kind-here}
 use borrow.Author.Needs.{needs}
