@@ -42,7 +42,7 @@ pub const QUIET_REJECTED: u8 = 3;
 
 pub const QUIET_REPEATED: u8 = 4;
 
-// After the marks of a group's sets.
+// No set has it: it stands after the marks of a group's sets, and so tells how many they are.
 pub const GROUP_END: u8 = 5;
 
 // The bytes of AK2 and AK5 of an accepted set beside its ST02: ST01 has three.

@@ -29,6 +29,7 @@ pub const MOST_LINKS: usize = register::BUCKETS + 4 * MOST_ENTRIES;
 // An interchange of so many bytes at most has few sets, and less is cleared for them.
 pub const SHORT: usize = 4096;
 
+// Counted as for the longest, so that whatever a short interchange holds has its entries.
 pub const FEW_ENTRIES: usize = SHORT / 12 + rules::Interchange::MOST_GROUPS as usize;
 
 pub const FEW_LINKS: usize = register::BUCKETS + 4 * FEW_ENTRIES;
