@@ -133,6 +133,16 @@ fn headers_of_one_bucket(sets: usize, beginning: &str) -> String {
     interchange(sets, &group)
 }
 
+/// With one value that repeats, where ISA11 is the repetition separator.
+fn repeated_set(number: usize) -> String {
+    format!("ST*990*{number:04}~B1*ABCD*L{number:04}^L101*20240315*A~L11*4711*CN~SE*4*{number:04}~")
+}
+
+/// The same interchange with `^` in ISA11, as the repetition separator.
+fn with_separator(interchange: String) -> String {
+    interchange.replacen("*U*", "*^*", 1)
+}
+
 /// One set with these bytes between header and trailer.
 fn one_set(body: &str) -> String {
     interchange(1, &format!("ST*990*0001~{body}SE*3*0001~"))
@@ -195,6 +205,22 @@ pub fn answered() -> Vec<Input> {
         input(
             "a segment of 60000 separators",
             one_set(&format!("B1{}~", "*".repeat(60_000))),
+        ),
+        input(
+            "10 clean sets, with a repetition separator",
+            with_separator(group(10, clean_set)),
+        ),
+        input(
+            "900 clean sets, with a repetition separator",
+            with_separator(group(900, clean_set)),
+        ),
+        input(
+            "900 sets, each with a repeated element",
+            with_separator(group(900, repeated_set)),
+        ),
+        input(
+            "a last element of 60000 bytes that repeats at its end",
+            with_separator(one_set(&format!("B1*ABCD~L11*{}^~", "A".repeat(59_999)))),
         ),
     ]);
     inputs

@@ -12,6 +12,7 @@ mod calendars;
 mod echoes;
 mod groups;
 mod interchanges;
+mod repetitions;
 
 /// What the gate compares: `compare cases --seed 1 --count 200000`.
 const SEED: u64 = 1;

@@ -19,6 +19,7 @@ pub enum ElementError {
     InvalidDate = 8,
     InvalidTime = 9,
     ExclusionViolated = 10,
+    TooManyRepetitions = 12,
 }
 
 impl ElementError {
@@ -68,10 +69,12 @@ pub fn element_notes<'a>(
     if segment.elements.len() > layout.elements.len() {
         found.insert((layout.elements.len() + 1, ElementError::TooMany));
     }
-    // A value with an invalid byte is shown under no code.
-    let is_shown = |place, error: ElementError| {
-        error.has_value() && !found.contains(&(place, ElementError::InvalidCharacter))
+    // A value with an invalid byte or a repetition is shown under no code.
+    let is_withheld = |place| {
+        found.contains(&(place, ElementError::InvalidCharacter))
+            || found.contains(&(place, ElementError::TooManyRepetitions))
     };
+    let is_shown = |place, error: ElementError| error.has_value() && !is_withheld(place);
     let note = |&(place, error)| ElementNote {
         place,
         reference: layout.elements.get(place - 1).map(|row| row.reference),
@@ -96,6 +99,10 @@ fn element_error(
 ) -> Option<ElementError> {
     if element.is_empty() {
         return (row.need == Need::Mandatory).then_some(ElementError::MandatoryMissing);
+    }
+    // No element of the tables repeats.
+    if delimiters.repeats(element) {
+        return Some(ElementError::TooManyRepetitions);
     }
     let counted = counted_bytes(element, row.element_type);
     let not_numeric = row.element_type == ElementType::N0 && !all_digits(counted);

@@ -2,7 +2,7 @@
 
 use crate::delimiters::Delimiters;
 use crate::refusal::Refusal;
-use crate::values::all_digits;
+use crate::values::{all_digits, decimal};
 
 /// The length of ISA with its terminator.
 pub const ISA_LENGTH: usize = 106;
@@ -16,6 +16,15 @@ pub const SEPARATORS: [usize; 16] = [
 
 const COMPONENT_SEPARATOR: usize = 104;
 const TERMINATOR: usize = 105;
+
+/// The number of the field that is a delimiter in some interchanges.
+const REPETITION_SEPARATOR: usize = 11;
+
+/// From this ISA12 on, ISA11 is a delimiter.
+const FIRST_WITH_REPETITION: u64 = 402;
+
+/// What ISA11 says where there are no repetitions.
+const NO_REPETITION: u8 = b'U';
 
 /// The number of fields before ISA16, which is a delimiter and no data.
 const DATA_FIELDS: usize = 15;
@@ -35,6 +44,7 @@ impl<'a> Isa<'a> {
             element: interchange[SEPARATORS[0]],
             component: interchange[COMPONENT_SEPARATOR],
             terminator: interchange[TERMINATOR],
+            repetition: repetition_separator(interchange),
         }
         .check()?;
         let isa = Isa {
@@ -47,17 +57,22 @@ impl<'a> Isa<'a> {
 
     /// ISA01 to ISA15 by their number.
     fn field(&self, number: usize) -> &'a [u8] {
-        &self.interchange[SEPARATORS[number - 1] + 1..SEPARATORS[number]]
+        field(self.interchange, number)
     }
 
     fn check_fields(&self) -> Result<(), Refusal> {
-        let mut fields = (1..=DATA_FIELDS).map(|number| self.field(number));
-        let all_valid = fields.all(|field| self.delimiters.all_valid(field));
+        let is_valid = |number| self.delimiters.all_valid(self.field(number));
+        let all_valid =
+            (1..=DATA_FIELDS).all(|number| self.is_delimiter(number) || is_valid(number));
         let known_usage = matches!(self.usage_indicator(), b"P" | b"T" | b"I");
         if !all_valid || !all_digits(self.control_number()) || !known_usage {
             return Err(Refusal::IsaFields);
         }
         Ok(())
+    }
+
+    fn is_delimiter(&self, number: usize) -> bool {
+        number == REPETITION_SEPARATOR && self.delimiters.repetition.is_some()
     }
 
     /// ISA05
@@ -104,6 +119,17 @@ impl<'a> Isa<'a> {
     pub fn usage_indicator(&self) -> &'a [u8] {
         self.field(15)
     }
+}
+
+fn field(interchange: &[u8], number: usize) -> &[u8] {
+    &interchange[SEPARATORS[number - 1] + 1..SEPARATORS[number]]
+}
+
+/// ISA11, where ISA12 is five digits that make it a delimiter.
+fn repetition_separator(interchange: &[u8]) -> Option<u8> {
+    let version = decimal(field(interchange, REPETITION_SEPARATOR + 1), 5)?;
+    let separator = field(interchange, REPETITION_SEPARATOR)[0];
+    (version >= FIRST_WITH_REPETITION && separator != NO_REPETITION).then_some(separator)
 }
 
 fn check_separators(interchange: &[u8]) -> Result<(), Refusal> {

@@ -42,6 +42,7 @@ mod tests {
         element: b'*',
         component: b'>',
         terminator: b'~',
+        repetition: None,
     };
 
     #[test]

@@ -149,6 +149,7 @@ fn notes<'a>(elements: &[&'a str]) -> Vec<(usize, u8, &'a str)> {
         element: b'*',
         component: b'>',
         terminator: b'~',
+        repetition: None,
     };
     let notes = element_notes(&segment, &LAYOUT, &delimiters).into_iter();
     notes

@@ -3,6 +3,7 @@
 use second::exchange::{exchange, RESPONSE_BUFFER};
 use second::generator::coverage::{all_outcomes, Coverage, Outcome};
 use second::generator::{cases, standard_input, Case, Family};
+use second::values::decimal;
 use second::{answer, Answer};
 use std::collections::{BTreeMap, BTreeSet};
 
@@ -611,4 +612,131 @@ fn whole_exchanges_have_good_and_bad_first_lines() {
         }
     }
     assert!(good > 1_000 && bad > 300, "{good} {bad}");
+}
+
+const ISA11: usize = 82;
+
+fn kind_of_isa11(interchange: &[u8]) -> &'static str {
+    match interchange[ISA11] {
+        byte if byte == interchange[3] => "the element separator",
+        byte if byte == interchange[104] => "the component separator",
+        byte if byte == interchange[105] => "the terminator",
+        b'U' => "U",
+        b'u' => "u",
+        b'^' => "a circumflex",
+        b'-' => "a minus",
+        b' ' => "a space",
+        0 => "a zero byte",
+        b'\n' => "a line feed",
+        0x1E => "30",
+        0xFF => "255",
+        byte if byte.is_ascii_alphabetic() => "a letter",
+        byte if byte.is_ascii_digit() => "a digit",
+        _ => "another byte",
+    }
+}
+
+fn kind_of_isa12(interchange: &[u8]) -> &'static str {
+    let isa12 = &interchange[84..89];
+    match decimal(isa12, 5) {
+        Some(401) => "00401",
+        Some(402) => "00402",
+        Some(..401) => "less",
+        Some(403..10_000) => "more",
+        Some(_) => "10000 or more",
+        None if isa12.contains(&interchange[ISA11]) => "with ISA11",
+        None => "no number",
+    }
+}
+
+/// Whether the ISA of a case has four delimiters, all of which are good.
+fn repeats(case: &Case) -> bool {
+    let isa11 = kind_of_isa11(&case.interchange);
+    let isa12 = kind_of_isa12(&case.interchange);
+    let good = [
+        "a circumflex",
+        "a minus",
+        "a zero byte",
+        "a line feed",
+        "30",
+        "255",
+    ];
+    good.contains(&isa11) && ["00402", "more", "10000 or more"].contains(&isa12)
+}
+
+#[test]
+fn isa11_and_isa12_meet_in_every_way() {
+    let mut seen: BTreeMap<_, u32> = BTreeMap::new();
+    for case in of_family(|family| family == Family::Repetitions, 200_000) {
+        let isa11 = kind_of_isa11(&case.interchange);
+        let isa12 = kind_of_isa12(&case.interchange);
+        *seen.entry((isa11, isa12)).or_default() += 1;
+    }
+    // An ISA12 that holds ISA11 may be a number where ISA11 is a digit.
+    seen.remove(&("a digit", "with ISA11"));
+    assert_eq!(seen.len(), 15 * 7 - 1, "{seen:?}");
+    assert!(seen.values().all(|&count| count >= 3), "{seen:?}");
+}
+
+/// The places in which the repetition separator stands, as the id of the
+/// segment and its place. A segment that the directory does not have is `?`.
+fn repetitions(case: &Case) -> BTreeSet<(String, usize)> {
+    let separator = case.interchange[ISA11];
+    let isa = case.interchange[..105].split(|&byte| byte == case.interchange[3]);
+    let isa: Vec<&[u8]> = isa.collect();
+    let mut found = BTreeSet::new();
+    for segment in std::iter::once(isa).chain(segments(case)) {
+        let id = match segment[0] {
+            b"ISA" | b"GS" | b"ST" | b"B1" | b"L11" | b"K1" | b"SE" | b"GE" | b"IEA" => segment[0],
+            _ => b"?",
+        };
+        let id = String::from_utf8_lossy(id);
+        for (place, element) in segment.iter().enumerate() {
+            if element.contains(&separator) {
+                found.insert((id.to_string(), place));
+            }
+        }
+    }
+    found.remove(&("ISA".to_string(), 11));
+    found
+}
+
+#[test]
+fn the_repetition_separator_stands_in_every_place() {
+    let mut seen: BTreeMap<_, u32> = BTreeMap::new();
+    let mut groups_of_answered: BTreeMap<usize, u32> = BTreeMap::new();
+    for case in of_family(|family| family == Family::Repetitions, 200_000) {
+        if !repeats(&case) {
+            continue;
+        }
+        for place in repetitions(&case) {
+            *seen.entry(place).or_default() += 1;
+        }
+        if case.answer().number() == 0 {
+            let groups = groups(&segments(&case)).len();
+            *groups_of_answered.entry(groups).or_default() += 1;
+        }
+    }
+    for (id, places) in [
+        ("ISA", 1..=10),
+        ("ISA", 13..=15),
+        ("GS", 1..=8),
+        ("ST", 1..=4),
+        ("B1", 1..=5),
+        ("L11", 1..=4),
+        ("K1", 1..=3),
+        ("SE", 1..=3),
+        ("GE", 1..=3),
+        ("IEA", 1..=2),
+        ("?", 0..=2),
+    ] {
+        for place in places {
+            let count = seen.get(&(id.to_string(), place)).copied();
+            assert!(count >= Some(20), "{id} {place}: {count:?}");
+        }
+    }
+    for groups in 1..=3 {
+        let count = groups_of_answered.get(&groups).copied();
+        assert!(count >= Some(500), "{groups} groups: {count:?}");
+    }
 }

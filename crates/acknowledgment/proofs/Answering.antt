@@ -1,21 +1,22 @@
 -- The response as it is written, and what the checks leave to the answer.
 use Prim.Native.Nat.{ℕ, zero, suc, _+_, _*_, _≤_, _<_}
 use mathlib.Core.Path.{_≡_, refl, ap, _∙_}
-use mathlib.Core.Bool.{false, _||_, not}
+use mathlib.Core.Bool.{false}
 use mathlib.Core.List.{List, _++_}
 use native.Mathlib.Omega.{arith}
-use borrow.Author.Tests.{not-true, not-false, leb-true}
+use borrow.Author.Tests.{not-false, leb-true}
 use lib.Dec.{leb, eqb}
 use lib.ListN.{length, replicate, length-append, length-replicate, getD}
-use Rattle.rules.specs.Base.{Bytes, any, first}
+use Rattle.rules.specs.Base.{Bytes, first}
 use Rattle.rules.specs.Cutting.{delimiters, marks, split, segments}
 use Rattle.rules.specs.Groups.{Group, groupsOf}
 use Rattle.rules.specs.Refusals.{distinct, goodMarks, headRules, mostGroups, groupsRules, refusal}
 use Rattle.rules.specs.Response.{out, firstHeader, respond, response}
 use Rattle.rules.specs.declared.Call.{Call}
 use Rattle.rules.specs.declared.Delimiters.{Delimiters}
-use Rattle.rules.proofs.Logic.{and-left, and-right, or-left, or-right, silent}
+use Rattle.rules.proofs.Logic.{and-left, and-right, silent}
 use Rattle.rules.proofs.Bound.{response-bound}
+use Rattle.rules.proofs.Envelope.{marks-differ}
 use Rattle.rules.proofs.Cuts.{out-append}
 use Rattle.text.specs.Text.{part}
 use Rattle.envelope.specs.Places.{groupAt}
@@ -92,12 +93,11 @@ short-of i e =
 
 -- its separator is not its terminator
 apart-of : (i : Bytes) → first (headRules i) ≡ 0 → eqb (delimiters i .element) (delimiters i .terminator) ≡ false
-unfolding headRules goodMarks distinct marks any
+unfolding headRules goodMarks
 apart-of i e =
     let d = delimiters i in
     let good = not-false _ (silent (headRules i) tt e .1 .1 .0) in
-    let apart = not-true (eqb (d .element) (d .component) || (eqb (d .element) (d .terminator) || false)) (and-left (not (eqb (d .element) (d .component) || (eqb (d .element) (d .terminator) || false))) _ (and-left (distinct (marks d)) _ good)) in
-    or-left (eqb (d .element) (d .terminator)) false (or-right (eqb (d .element) (d .component)) _ apart)
+    marks-differ d (and-left (distinct (marks d)) _ good) .0
 
 -- past refusals 1 to 8 the groups can be answered
 pub answering : (i : Bytes) (call : Call) {d : Delimiters} {e : Envelope}

@@ -18,12 +18,13 @@ use Rattle.rules.specs.Tables.{Syntax}
 use Rattle.rules.specs.declared.Relation.{Relation}
 use Rattle.rules.specs.declared.Relation.the-variants.{P, R, E, C, L}
 use Rattle.rules.proofs.Logic.{and-left, and-right}
+use Rattle.rules.proofs.Repeating.{lacking-present}
 use Rattle.text.proofs.Loops.{and-false, or-false}
 use Rattle.tables.specs.Reading.{namesWithin}
 use Rattle.elements.specs.Marks.{noMarks, markedWith, marked, two, brokenBy, breaksNote}
 use Rattle.elements.specs.Notes.{breaks}
 use Rattle.elements.specs.declared.Marks.{Marks}
-use Rattle.elements.proofs.Notes.{turned, pair, lacking-present, excluded-absent}
+use Rattle.elements.proofs.Notes.{turned, pair, excluded-absent}
 
 -- 1. Two places, at a cursor.
 module _ (p : ℕ → Bool) (ps : List ℕ) (k : ℕ) where

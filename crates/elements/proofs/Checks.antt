@@ -1,6 +1,6 @@
 -- The check of a segment: one row after the other, and that what it finds is document 01's.
 use mathlib.Core.Path.{_≡_, refl, sym, ap, _∙_}
-use mathlib.Core.Bool.{Bool, true, false, _||_, not, true≢false}
+use mathlib.Core.Bool.{Bool, true, false, _&&_, _||_, not, true≢false}
 use mathlib.Core.List.{List, [], _∷_, _++_, map, map-congr-left}
 use Prim.Native.Nat.{ℕ, zero, suc, _+_, _-_, _<_, _≤_}
 use native.Mathlib.Nat.{zero-lt-suc}
@@ -28,27 +28,36 @@ use Rattle.elements.specs.declared.Cursor.{Cursor}
 use Rattle.elements.specs.declared.Found.{Found}
 use Rattle.elements.specs.declared.Found.the-variants.{Codes, Nothing}
 use Rattle.elements.specs.declared.PlaceCodes.{PlaceCodes}
-use Rattle.elements.proofs.Places.{next-field, next-present, next-at, after-within, place-codes}
+use Rattle.elements.proofs.Places.{next-field, next-present, next-at, after-within, ascending-null, place-codes}
 
 -- 1. The codes of a place.
 -- a code is a finding, and no code is none
-some-found : (s : Bytes) (p : PlaceCodes) → isCoded p ≡ true → 0 < length (findingsAt s p)
-unfolding findingsAt every
-some-found s p e = go (eqb (p .own) 0) refl (eqb (p .noted) 0) refl e
+coded-null : (s : Bytes) (p : PlaceCodes) → null (findingsAt s p) ≡ not (isCoded p)
+unfolding findingsAt
+coded-null s p = mapped (givenCodes p) ∙ ascending-null (p .own) (p .noted) ∙ go (eqb (p .own) 0) (eqb (p .noted) 0)
   where
-    go : (a : Bool) → eqb (p .own) 0 ≡ a → (b : Bool) → eqb (p .noted) 0 ≡ b → not a || not b ≡ true → 0 < length (findingsAt s p)
-    go true x true y q = absurd (true≢false (sym q))
-    go true x false y q = rw (x, y) (zero-lt-suc 0)
-    go false x b y q = rw x (zero-lt-suc _)
+    mapped : (cs : List ℕ) → null (map (λ c. findingIn s (findingBy p c)) cs) ≡ null cs
+    mapped [] = refl
+    mapped (c ∷ cs) = refl
+
+    go : (x y : Bool) → x && y ≡ not (not x || not y)
+    go true true = refl
+    go true false = refl
+    go false y = refl
+
+some-found : (s : Bytes) (p : PlaceCodes) → isCoded p ≡ true → 0 < length (findingsAt s p)
+some-found s p e = go (findingsAt s p) (coded-null s p ∙ rw e)
+  where
+    go : (fs : List Finding) → null fs ≡ false → 0 < length fs
+    go [] h = absurd (true≢false h)
+    go (f ∷ fs) h = zero-lt-suc _
 
 none-found : (s : Bytes) (p : PlaceCodes) → isCoded p ≡ false → findingsAt s p ≡ []
-unfolding findingsAt every
-none-found s p e = go (eqb (p .own) 0) refl (eqb (p .noted) 0) refl e
+none-found s p e = go (findingsAt s p) (coded-null s p ∙ rw e)
   where
-    go : (a : Bool) → eqb (p .own) 0 ≡ a → (b : Bool) → eqb (p .noted) 0 ≡ b → not a || not b ≡ false → findingsAt s p ≡ []
-    go true x true y q = rw (x, y)
-    go true x false y q = absurd (true≢false q)
-    go false x b y q = absurd (true≢false q)
+    go : (fs : List Finding) → null fs ≡ true → fs ≡ []
+    go [] h = refl
+    go (f ∷ fs) h = absurd (true≢false (sym h))
 
 -- 2. What is echoed of a value is its beginning.
 begins : (s : Bytes) (v : Span) → part s (beginning v .start) (beginning v .end) ≡ take 99 (part s (v .start) (v .end))

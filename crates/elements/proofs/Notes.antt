@@ -1,17 +1,16 @@
 -- Syntax notes: the relations test by test, the notes of an entry at a cursor, and which code a broken note gives.
-use mathlib.Core.Path.{_≡_, refl, sym, _∙_}
+use mathlib.Core.Path.{_≡_, refl, sym}
 use mathlib.Core.Bool.{Bool, true, false, _&&_, _||_, not, Bool·beq, true≢false}
 use mathlib.Core.List.{List, [], _∷_}
 use Prim.Native.Nat.{ℕ, _+_, _-_, _<_, _≤_}
 use native.Mathlib.Numerals.{add-one}
 use native.Mathlib.Omega.{arith}
-use borrow.Author.Tests.{eqb-true}
 use lib.Dec.{eqb}
 use lib.ListN.{length, getD, take, drop, drop-of-length-le, length-drop}
 use lib.Seq.{drop-cons, take-all}
 use Rattle.rules.specs.Base.{any}
 use Rattle.rules.specs.Cutting.{Segment}
-use Rattle.rules.specs.Elements.{present, isPlace, afterPresent, lacking, excluded, lacks, shutsOut}
+use Rattle.rules.specs.Elements.{present, isPlace, afterPresent, lacking, excluded, shutsOut}
 use Rattle.rules.specs.Tables.{Syntax}
 use Rattle.tables.specs.Rows.{isRow, syntaxIn}
 use Rattle.rules.specs.declared.Relation.{Relation}
@@ -97,41 +96,12 @@ module _ (s : Segment) (n : ℕ) where
 
 -- 3. A note asks only for what is absent, and shuts out only what is present.
 module _ (s : Segment) (n : ℕ) where
-  missing : (p : ℕ) (ps : List ℕ) → present s n ≡ true → eqb n p && not (any (present s) (p ∷ ps)) ≡ false
-  unfolding any
-  missing p ps e = go (eqb n p) refl
-    where
-      go : (b : Bool) → eqb n p ≡ b → b && not (any (present s) (p ∷ ps)) ≡ false
-      go false f = refl
-      go true f = rw (← eqb-true n p f, e)
-
-  pub lacking-present : (r : Relation) (ps : List ℕ) → present s n ≡ true → lacking s r ps n ≡ false
-  lacking-present P ps e = pair s n ps ∙ rw e (and-false (isPlace n ps))
-  lacking-present R [] e = refl
-  lacking-present R (p ∷ ps) e = missing p ps e
-  lacking-present E ps e = refl
-  lacking-present C [] e = refl
-  lacking-present C (p ∷ ps) e = turned (present s p) (isPlace n ps) (not (present s n)) ∙ rw e (and-false (isPlace n ps))
-  lacking-present L [] e = refl
-  lacking-present L (p ∷ []) e = refl
-  lacking-present L (p ∷ (q ∷ ps)) e = go (eqb n q) (present s p) (not (any (present s) (q ∷ ps))) (missing q ps e)
-    where
-      go : (a b c : Bool) → a && c ≡ false → a && b && c ≡ false
-      go false b c f = refl
-      go true false c f = refl
-      go true true c f = f
-
   pub excluded-absent : (r : Relation) (ps : List ℕ) → present s n ≡ false → excluded s r ps n ≡ false
   excluded-absent E ps e = rw e (and-false (isPlace n (afterPresent s ps)))
   excluded-absent P ps e = refl
   excluded-absent R ps e = refl
   excluded-absent C ps e = refl
   excluded-absent L ps e = refl
-
-  pub lacks-present : (notes : List Syntax) → present s n ≡ true → lacks notes s n ≡ false
-  unfolding lacks any
-  lacks-present [] e = refl
-  lacks-present (c ∷ notes) e = rw (lacking-present (c .relation) (c .places) e) (lacks-present notes e)
 
   pub shuts-absent : (notes : List Syntax) → present s n ≡ false → shutsOut notes s n ≡ false
   unfolding shutsOut any

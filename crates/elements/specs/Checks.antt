@@ -1,5 +1,5 @@
 -- The check of a segment, place by place, as a function of the cursor: total, whatever the cursor says.
-use Prim.Native.Nat.{ℕ, _+_}
+use Prim.Native.Nat.{ℕ, _+_, min, max}
 use mathlib.Core.Bool.{Bool, true, false, _||_, not}
 use mathlib.Core.List.{List, [], _∷_, _++_, map}
 use lib.Dec.{eqb, ltb}
@@ -42,9 +42,12 @@ echoAt p c =
 abbrev pub findingBy : PlaceCodes → ℕ → declared.Finding
 findingBy p c = record { place = p .place; reference = p .reference; code = c; echo = echoAt p c }
 
--- the codes of a place: the value's own, then that of the notes
+-- the codes of a place, the lower first: the value's own, and that of the notes
 abbrev pub givenCodes : PlaceCodes → List ℕ
-givenCodes p = every ((not (eqb (p .own) 0) ⇒ p .own) ∷ (not (eqb (p .noted) 0) ⇒ p .noted) ∷ [])
+givenCodes p =
+    let lower = min (p .own) (p .noted) in
+    let higher = max (p .own) (p .noted) in
+    every ((not (eqb lower 0) ⇒ lower) ∷ (not (eqb higher 0) ⇒ higher) ∷ [])
 
 -- the findings that they are, in the segment s
 unfoldable pub findingsAt : Bytes → PlaceCodes → List Finding

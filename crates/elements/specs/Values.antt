@@ -1,12 +1,14 @@
--- The code of an element by a row, once it is known whether its bytes are valid.
+-- The code of an element: by its bytes alone, and by its row where all of them are valid.
 use Prim.Native.Nat.{ℕ}
 use mathlib.Core.Bool.{Bool, true, false, _&&_, _||_, not}
 use mathlib.Core.List.{[], _∷_}
 use lib.Dec.{ltb}
 use Rattle.rules.specs.Base.{Bytes, _⇒_, first, null, all, between, isDigit, member, if_then_else_}
-use Rattle.rules.specs.Elements.{isN0, isDT, isTM, unsigned, valueLength}
+use Rattle.rules.specs.Cutting.{valid}
+use Rattle.rules.specs.Elements.{isN0, isDT, isTM, unsigned, valueLength, repeats}
 use Rattle.rules.specs.Numbers.{isDate, isTime}
 use Rattle.rules.specs.Tables.{Row}
+use Rattle.rules.specs.declared.Delimiters.{Delimiters}
 use Rattle.rules.specs.declared.Kind.{Kind}
 use Rattle.rules.specs.declared.Kind.the-variants.{AN, ID, N0, DT, TM}
 
@@ -32,9 +34,13 @@ valueCode r e =
     else ruleCode (r .kind) e)))
     else 6
 
--- the code of an element, by whether its bytes are valid
-unfoldable pub codeBy : Bool → Row → Bytes → ℕ
-codeBy valid r e = if null e then first ((r .mandatory ⇒ 1) ∷ []) else (if valid then valueCode r e else 6)
+-- the code of an element by its bytes alone, 0 where all are valid
+unfoldable pub byteCode : Delimiters → Bytes → ℕ
+byteCode d e = first ((repeats d e ⇒ 12) ∷ (not (all (valid d) e) ⇒ 6) ∷ [])
+
+-- the code of an element of valid bytes, by its row
+unfoldable pub rowCode : Row → Bytes → ℕ
+rowCode r e = if null e then first ((r .mandatory ⇒ 1) ∷ []) else valueCode r e
 
 -- types AN and ID have no rule of their own
 abbrev pub isText : Kind → Bool

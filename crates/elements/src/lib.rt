@@ -2,7 +2,7 @@
 ghost use mathlib.Core.Path.{_≡_};
 ghost use mathlib.Core.Bool.{true, _&&_, not};
 ghost use mathlib.Core.List.{[], _∷_};
-ghost use Prim.Native.Nat.{_+_, _<_};
+ghost use Prim.Native.Nat.{_+_, _<_, min, max};
 ghost use lib.Dec.{eqb};
 ghost use lib.ListN.{getD, drop};
 ghost use Rattle.rules.specs.Base.{_⇒_, first, any, all};
@@ -11,7 +11,7 @@ ghost use Rattle.rules.specs.Elements as law;
 ghost use Rattle.rules.specs.Numbers.{isDate, isTime};
 ghost use Rattle.tables.specs.Rows as rows;
 ghost use Rattle.tables.specs.Reading.{rowAt, noteAt};
-ghost use Rattle.elements.specs.Values.{isText, unlisted, spelledAs, ruleCode, valueCode, takesLength, codeBy};
+ghost use Rattle.elements.specs.Values.{isText, unlisted, spelledAs, ruleCode, valueCode, takesLength, byteCode, rowCode};
 ghost use Rattle.elements.specs.Notes.{isE, breaks, noteCodeBy};
 ghost use Rattle.elements.specs.Marks.{noMarks, markedWith, marked, two, brokenBy, breaksNote};
 ghost use Rattle.elements.specs.Checks.{isSome, beginning, echoAt, findingBy, placeAfter, noteRow, nextStart, fieldAfter, codesAt, surplus, nextFound, start};
@@ -130,6 +130,34 @@ fn value_code(e: &[u8], guide: &[[u16; 6]], k: usize) -> u8
     rule_code(e, kind)
 }
 
+// The repetition separator stands in the value.
+fn repeats(e: &[u8], d: Delimiters) -> bool
+    ensures { λ r. ⌜ r ≡ law.repeats d (now (e .entry)) ⌝ }
+{
+    let mut i = 0;
+    while i < e.len() {
+        if d.separates_repetitions(e[i]) {
+            return true;
+        }
+        i += 1;
+    }
+    false
+}
+
+// The code of a value by its bytes alone, 0 where all are valid. The repetition separator is no valid byte, so valid ones are not searched for it.
+fn byte_code(e: &[u8], d: Delimiters) -> u8
+    ensures { λ r. ⌜ r ≡ byteCode d (now (e .entry)) ⌝ }
+{
+    if text::all_valid(e, d) {
+        return 0;
+    }
+    if repeats(e, d) {
+        ElementCode::TOO_MANY_REPETITIONS
+    } else {
+        ElementCode::BAD_BYTE
+    }
+}
+
 // The code of an element by row k, 0 for none.
 fn element_code(e: &[u8], d: Delimiters, guide: &[[u16; 6]], k: usize) -> u8
     ensures { λ r. ⌜ r ≡ law.elementCode d (rowAt (now (guide .entry)) k) (now (e .entry)) ⌝ }
@@ -137,8 +165,9 @@ fn element_code(e: &[u8], d: Delimiters, guide: &[[u16; 6]], k: usize) -> u8
     if e.len() == 0 {
         return empty_code(guide, k);
     }
-    if !text::all_valid(e, d) {
-        return ElementCode::BAD_BYTE;
+    let code = byte_code(e, d);
+    if code != 0 {
+        return code;
     }
     value_code(e, guide, k)
 }
@@ -173,7 +202,7 @@ pub fn takes_length(n: usize, guide: &[[u16; 6]], k: usize) -> bool
 
 // An element of valid bytes has no code by row k.
 pub fn takes(e: &[u8], guide: &[[u16; 6]], k: usize) -> bool
-    ensures { λ r. ⌜ r ≡ eqb (codeBy true (rowAt (now (guide .entry)) k) (now (e .entry))) 0 ⌝ }
+    ensures { λ r. ⌜ r ≡ eqb (rowCode (rowAt (now (guide .entry)) k) (now (e .entry))) 0 ⌝ }
 {
     if e.len() == 0 {
         return empty_code(guide, k) == 0;
@@ -397,6 +426,13 @@ fn shows_value(code: u8) -> bool
         | (code == ElementCode::SHUT_OUT)
 }
 
+// A value with this code of its own is echoed under no code.
+fn is_withheld(own: u8) -> bool
+    ensures { λ r. ⌜ r ≡ law.isWithheld own ⌝ }
+{
+    (own == ElementCode::BAD_BYTE) | (own == ElementCode::TOO_MANY_REPETITIONS)
+}
+
 // As much of a value as is echoed: its first bytes. A span that ends before it starts has no length, and stays as it is.
 fn beginning(value: Span) -> Span
     ensures { λ r. ⌜ r ≡ beginning value ⌝ }
@@ -424,12 +460,34 @@ pub struct PlaceCodes {
 }
 
 impl PlaceCodes {
-    // Where the echo under one of the codes lies. A value with code 6 is echoed under none.
+    // The lower of the codes, 0 where there are not two.
+    pub fn lower(self) -> u8
+        ensures { λ r. ⌜ r ≡ min (self .own) (self .noted) ⌝ }
+    {
+        if self.own <= self.noted {
+            self.own
+        } else {
+            self.noted
+        }
+    }
+
+    // The higher of them, 0 where there is none.
+    pub fn higher(self) -> u8
+        ensures { λ r. ⌜ r ≡ max (self .own) (self .noted) ⌝ }
+    {
+        if self.own <= self.noted {
+            self.noted
+        } else {
+            self.own
+        }
+    }
+
+    // Where the echo under one of the codes lies.
     fn echo(self, code: u8) -> Span
         ensures { λ r. ⌜ r ≡ echoAt self code ⌝ }
     {
         let value = self.value;
-        if shows_value(code) & (self.own != ElementCode::BAD_BYTE) {
+        if shows_value(code) & !is_withheld(self.own) {
             return beginning(value);
         }
         let start = value.start;

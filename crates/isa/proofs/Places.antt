@@ -7,11 +7,14 @@ use native.Mathlib.Nat.{not-suc-le-zero, le-of-suc-le-suc, sub-zero}
 use native.Mathlib.Omega.{arith}
 use borrow.Author.Tests.{ltb-true}
 use lib.Dec.{ltb}
-use lib.ListN.{length, getD, take, drop}
-use lib.Seq.{slice, take-nil}
+use lib.ListN.{length, getD, take, drop, length-take}
+use lib.Seq.{slice, take-nil, getD-take}
 use Rattle.rules.specs.Base.{Bytes, all, last}
 use Rattle.rules.specs.Cutting.{separators, fieldsAt, field, isa}
-use Rattle.rules.proofs.Logic.{all-at}
+use Rattle.rules.specs.Refusals.{textFields}
+use Rattle.rules.specs.declared.Repetition.{Repetition}
+use Rattle.rules.specs.declared.Repetition.the-variants.{Nothing, By}
+use Rattle.rules.proofs.Logic.{all-both, all-at}
 use Rattle.text.proofs.Loops.{all-step, all-end}
 
 pub sixteen : length separators ≡ 16
@@ -29,6 +32,25 @@ module _ {A : Type 0} (p : A → Bool) (xs : List A) (l : length xs ≡ 16) (k :
 
   pub test-end : 16 ≤ k → all p (drop k xs) ≡ true
   test-end h = all-end p xs k (rw l h)
+
+-- a test over the part of sixteen from k up to m: x, at k, passes as q says, and the rest decides
+module _ {A : Type 0} (p : A → Bool) (xs : List A) (l : length xs ≡ 16) (m : ℕ) (few : m ≤ 16) (k : ℕ) where
+  pub part-step : (d x : A) (q : Bool) → k < m → x ≡ getD xs k d → p x ≡ q → all p (slice k m xs) ≡ q && all p (slice (k + 1) m xs)
+  part-step d x q h at e =
+      all-step p (take m xs) d k q (simp length-take (omega (arith, l, few))) (ap p (getD-take m xs k d h ∙ sym at) ∙ e)
+
+  pub part-end : m ≤ k → all p (slice k m xs) ≡ true
+  part-end h = all-end p (take m xs) k (simp length-take (omega arith))
+
+-- a test over the fields of ISA that are text: over all of them, or over all but ISA11
+module _ (p : Bytes → Bool) (i : Bytes) (r : Repetition) where
+  pub texts-all : r ≡ Nothing → all p (slice 0 16 (isa i)) ≡ all p (textFields r (isa i))
+  unfolding isa fieldsAt separators
+  texts-all e = rw e
+
+  pub texts-others : {b : ℕ} → r ≡ By b → all p (slice 0 11 (isa i)) && all p (slice 12 16 (isa i)) ≡ all p (textFields r (isa i))
+  unfolding isa fieldsAt separators
+  texts-others e = rw e (sym (all-both p (take 11 (isa i)) (drop 12 (isa i))))
 
 -- the fields of ISA: sixteen, the first up to the first separator, each other between two
 pub isa-length : (i : Bytes) → length (isa i) ≡ 16

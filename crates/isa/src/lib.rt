@@ -1,15 +1,17 @@
 // ISA: its delimiters and its fields, refusals 2 to 5, and the last byte.
 ghost use mathlib.Core.Path.{_≡_};
 ghost use mathlib.Core.List.{[], _∷_};
-ghost use Prim.Native.Nat.{_<_};
+ghost use Prim.Native.Nat.{_≤_, _<_};
 ghost use lib.ListN.{getD};
+ghost use lib.Seq.{slice};
 ghost use Rattle.rules.specs.Base.{ascii, all, last, member};
 ghost use Rattle.rules.specs.Cutting as cutting;
-ghost use Rattle.rules.specs.Cutting.{field, isa, separators, valid};
-ghost use Rattle.rules.specs.Refusals.{isTerminated, hasISA, plain, distinct, goodMarks, goodISA};
+ghost use Rattle.rules.specs.Cutting.{field, isa, separators, valid, marks, knowsRepetition, repetitionIn};
+ghost use Rattle.rules.specs.Refusals.{isTerminated, hasISA, plain, distinct, goodMarks, textFields, goodISA};
 ghost use Rattle.isa.specs.Delimited.{isaOf};
 use rules::Delimiters;
 use rules::Interchange;
+use rules::Repetition;
 use text::all_valid;
 use text::is_digits;
 use text::same_bytes;
@@ -40,9 +42,14 @@ const SEPARATORS: [usize; FIELDS] = [
 // Where the delimiters stand.
 const ELEMENT: usize = 3;
 
+const REPETITION: usize = 82;
+
 const COMPONENT: usize = 104;
 
 const TERMINATOR: usize = 105;
+
+// The first control version that knows repetition.
+const FIRST_WITH_REPETITION: u64 = 402;
 
 // What ISA gives: the delimiters of the interchange, or the number of the refusal.
 pub enum Isa {
@@ -64,7 +71,7 @@ pub fn read_isa(i: &[u8]) -> Isa
         return Isa::Refused(3);
     }
     let d = delimiters(i);
-    if !are_good_marks(&d.marks()) {
+    if !has_good_marks(d) {
         return Isa::Refused(4);
     }
     if !is_good_isa(i, d) {
@@ -80,7 +87,7 @@ pub fn is_terminated(i: &[u8], d: Delimiters) -> bool
     last_byte(i) == d.terminator
 }
 
-// The delimiters that the interchange brings, each 0 where it is too short.
+// The delimiters that the interchange brings. Of a short one the first three are 0 where they are missing, and there is no fourth where ISA12 is cut short.
 fn delimiters(i: &[u8]) -> Delimiters
     ensures { λ r. ⌜ r ≡ cutting.delimiters (now (i .entry)) ⌝ }
 {
@@ -88,7 +95,25 @@ fn delimiters(i: &[u8]) -> Delimiters
         byte_at(i, ELEMENT),
         byte_at(i, COMPONENT),
         byte_at(i, TERMINATOR),
+        repetition(i),
     )
+}
+
+// ISA11 where it is the repetition separator.
+fn repetition(i: &[u8]) -> Repetition
+    ensures { λ r. ⌜ r ≡ repetitionIn (now (i .entry)) ⌝ }
+{
+    let isa11 = byte_at(i, REPETITION);
+    if isa11 != b'U' && knows_repetition(isa_field(i, 12)) {
+        return Repetition::By(isa11);
+    }
+    Repetition::Nothing
+}
+
+fn knows_repetition(isa12: &[u8]) -> bool
+    ensures { λ r. ⌜ r ≡ knowsRepetition (now (isa12 .entry)) ⌝ }
+{
+    is_digits(isa12, 5, 5) && FIRST_WITH_REPETITION <= text::value(isa12)
 }
 
 // Field n of ISA, where the separators stand at these places; of a short interchange what there is of it.
@@ -131,6 +156,18 @@ fn has_isa(i: &[u8]) -> bool
         k += 1;
     }
     true
+}
+
+fn has_good_marks(d: Delimiters) -> bool
+    ensures { λ r. ⌜ r ≡ goodMarks (marks d) ⌝ }
+{
+    let repetition = d.repetition;
+    match repetition {
+        Repetition::Nothing => are_good_marks(&[d.element, d.component, d.terminator]),
+        Repetition::By(separator) => are_good_marks(
+            &[d.element, d.component, d.terminator, separator],
+        ),
+    }
 }
 
 fn are_good_marks(marks: &[u8]) -> bool
@@ -179,7 +216,7 @@ fn is_plain(b: u8) -> bool
 fn is_good_isa(i: &[u8], d: Delimiters) -> bool
     ensures { λ r. ⌜ r ≡ goodISA d (isa (now (i .entry))) ⌝ }
 {
-    if !are_valid_fields(i, d) {
+    if !are_valid_text_fields(i, d) {
         return false;
     }
     if !is_digits(isa_field(i, 13), 9, 9) {
@@ -188,12 +225,25 @@ fn is_good_isa(i: &[u8], d: Delimiters) -> bool
     is_usage(isa_field(i, 15))
 }
 
-fn are_valid_fields(i: &[u8], d: Delimiters) -> bool
-    ensures { λ r. ⌜ r ≡ all (all (valid d)) (isa (now (i .entry))) ⌝ }
+// The fields that are text: all of them, but ISA11 where it is the repetition separator.
+fn are_valid_text_fields(i: &[u8], d: Delimiters) -> bool
+    ensures { λ r. ⌜ r ≡ all (all (valid d)) (textFields (d .repetition) (isa (now (i .entry)))) ⌝ }
+{
+    let repetition = d.repetition;
+    match repetition {
+        Repetition::Nothing => are_valid_fields(i, d, 0, FIELDS),
+        Repetition::By(_) => are_valid_fields(i, d, 0, 11) && are_valid_fields(i, d, 12, FIELDS),
+    }
+}
+
+// The fields from one up to another, which is not among them.
+fn are_valid_fields(i: &[u8], d: Delimiters, from: usize, to: usize) -> bool
+    requires { ⌜ to ≤ 16 ⌝ }
+    ensures { λ r. ⌜ r ≡ all (all (valid d)) (slice from to (isa (now (i .entry)))) ⌝ }
 {
     let separators = SEPARATORS;
-    let mut n = 0;
-    while n < FIELDS {
+    let mut n = from;
+    while n < to {
         if !all_valid(field_at(i, &separators, n), d) {
             return false;
         }

@@ -6,16 +6,17 @@ use mathlib.Core.List.{List, [], _∷_, _++_, map}
 use mathlib.Core.Option.{Option, none, some}
 use native.Mathlib.Nat.{le-of-suc-le-suc, not-suc-le-zero, zero-lt-suc, zero-add}
 use native.Mathlib.Omega.{arith}
-use borrow.Author.Tests.{lt-ltb, le-ltb, ltb-true, ltb-false, le-leb, lt-leb, leb-true, leb-false, eq-eqb, ne-eqb, eqb-true, eqb-false, not-true}
+use borrow.Author.Tests.{lt-ltb, le-ltb, ltb-true, ltb-false, le-leb, lt-leb, leb-true, leb-false, eq-eqb, ne-eqb, eqb-true, eqb-false}
 use lib.Dec.{eqb, ltb, leb}
 use lib.ListN.{length, getD, take, drop, length-drop}
 use lib.Seq.{length-take-le, take-take, getD-take, getD-drop}
-use Rattle.rules.specs.Base.{Bytes, null, all, any, between, _⇒_, every, if_then_else_}
+use Rattle.rules.specs.Base.{Bytes, null, all, any, between, if_then_else_}
 use Rattle.rules.specs.Cutting.{Segment, split, field, valid, marks}
-use Rattle.rules.specs.Elements.{elementCode, present, placeCodes, Finding, found, surplusAt, findings, findingsFrom}
+use Rattle.rules.specs.Elements.{repeats, elementCode, present, placeCodes, Finding, found, surplusAt, findings, findingsFrom}
 use Rattle.rules.specs.Tables.{Row, Syntax}
 use Rattle.rules.specs.declared.Delimiters.{Delimiters}
-use Rattle.rules.proofs.Logic.{and-left, and-right, or-left}
+use Rattle.rules.proofs.Cuts.{valid-apart}
+use Rattle.rules.proofs.Logic.{and-left, and-right}
 use Rattle.text.specs.Text.{indexWhere, indexOf, nextWhere, part}
 use Rattle.text.proofs.Loops.{and-true, and-false}
 use Rattle.text.proofs.Where.{index-le, next-here}
@@ -23,14 +24,14 @@ use Rattle.segments.proofs.Fields.{FieldAt, field-first, field-next, field-at, 
 use Rattle.tables.specs.Rows.{column, isRow, rowIs, noteIs, codesIn, rowsIn, syntaxIn}
 use Rattle.tables.specs.Reading.{Guide, entryAt, rowBelow, followed, namesWithin, hasNone}
 use Rattle.tables.proofs.Laws.{below-rest}
-use Rattle.elements.specs.Values.{codeBy}
-use Rattle.elements.specs.Notes.{breaks}
+use Rattle.elements.specs.Values.{byteCode, rowCode}
+use Rattle.elements.specs.Notes.{breaks, noteCodeBy}
 use Rattle.elements.specs.Marks.{noMarks, markedWith, marked, breaksNote}
 use Rattle.elements.specs.declared.Marks.{Marks}
 use Rattle.elements.specs.Checks.{nextStart, fieldAfter}
-use Rattle.elements.proofs.Codes.{code-is}
+use Rattle.elements.proofs.Codes.{bytes-repeat, bytes-bad, code-bytes, code-is}
 use Rattle.elements.proofs.Broken.{anyFrom, notes-broken, Marked, marked-none, marked-next, marked-notes}
-use Rattle.elements.proofs.Places.{after-order, after-within, next-field, next-present, next-at, place-codes}
+use Rattle.elements.proofs.Places.{after-order, after-within, next-field, next-present, next-at, ascending-null, place-codes}
 use Rattle.look.specs.Bytes.{validBytes, isOther}
 use Rattle.look.specs.Passing.{idEnd, startAfter, isOver, readRows, passedBy, passed}
 use Rattle.look.specs.declared.segment.Passed.{Passed}
@@ -210,27 +211,28 @@ module _ (d : Delimiters) (rest : Bytes) where
 -- 4. The places of a segment.
 -- the code of a value that has a byte which is not valid
 code-spoiled : (d : Delimiters) (r : Row) (e : Bytes) → all (valid d) e ≡ false → eqb (elementCode d r e) 0 ≡ false
-unfolding codeBy all
+unfolding all
 code-spoiled d r [] h = absurd (true≢false h)
-code-spoiled d r (b ∷ e) h = rw (← code-is d r (b ∷ e), h)
+code-spoiled d r (b ∷ e) h = go (repeats d (b ∷ e)) refl
+  where
+    coded : {c : ℕ} → byteCode d (b ∷ e) ≡ c → eqb c 0 ≡ false → eqb (elementCode d r (b ∷ e)) 0 ≡ false
+    coded {c} p q = rw (code-bytes d r (b ∷ e) (λ z. omega arith) (λ z. eqb-false c 0 q (sym p ∙ z)), p) q
+
+    go : (twice : Bool) → repeats d (b ∷ e) ≡ twice → eqb (elementCode d r (b ∷ e)) 0 ≡ false
+    go true p = coded (bytes-repeat d (b ∷ e) p) refl
+    go false p = coded (bytes-bad d (b ∷ e) p h) refl
 
 module _ (d : Delimiters) (notes : List Syntax) (s : Segment) where
   -- a place has no code where its value has none and no note is broken there
   place-null : (r : Row) (n : ℕ) → null (placeCodes d notes s r n) ≡ (eqb (elementCode d r (field s n)) 0 && not (any (breaks (present s n) s n) notes))
-  unfolding every
-  place-null r n = rw (place-codes notes s n d r) (go (eqb (elementCode d r (field s n)) 0) (any (breaks (present s n) s n) notes) (present s n))
+  place-null r n =
+      rw (place-codes notes s n d r, ascending-null (elementCode d r (field s n)) (noteCodeBy (present s n) notes s n))
+      (ap (λ (b : Bool). eqb (elementCode d r (field s n)) 0 && b) (go (any (breaks (present s n) s n) notes) (present s n)))
     where
-      own : ℕ
-      own = elementCode d r (field s n)
-
-      noted : Bool → Bool → ℕ
-      noted b present = if b then (if present then 10 else 2) else 0
-
-      go : (z b present : Bool) → null (every ((not z ⇒ own) ∷ (not (eqb (noted b present) 0) ⇒ noted b present) ∷ [])) ≡ z && not b
-      go true true true = refl
-      go true true false = refl
-      go true false present = refl
-      go false b present = refl
+      go : (b present : Bool) → eqb (if b then (if present then 10 else 2) else 0) 0 ≡ not b
+      go true true = refl
+      go true false = refl
+      go false present = refl
 
   -- no finding is left from place n on by these rows
   abbrev silentBy : ℕ → List Row → Bool
@@ -275,10 +277,7 @@ silent-end d notes {e} {s} {n} end f = go (leb (length s) end) refl
 module _ (d : Delimiters) where
   -- a valid byte is no separator
   valid-free : (b : ℕ) → valid d b ≡ true → eqb b (d .element) ≡ false
-  unfolding valid marks any
-  valid-free b e =
-      let others = eqb b (d .component) || (eqb b (d .terminator) || false) in
-      or-left (eqb b (d .element)) others (not-true (eqb b (d .element) || others) (and-right (between 32 126 b) (not (eqb b (d .element) || others)) e))
+  valid-free b e = valid-apart d b e .0
 
   -- how many bytes come before the first that is not valid: as many as the field has, or fewer
   abbrev stop : Bytes → ℕ
@@ -495,7 +494,7 @@ module _ (d : Delimiters) (apart : eqb (d .element) (d .terminator) ≡ false) (
                 skipped false = f m
             by false p true q f =
                 rw (read-row (validBytes d) d rest (r ∷ rs) 0 end m (omega arith) p q, stays, next-here (isOther (validBytes d)) rest 0 end (s .within) (s .spoils))
-                (taken (eqb (codeBy true (rowIs r (codesIn rs)) (part rest end end)) 0))
+                (taken (eqb (rowCode (rowIs r (codesIn rs)) (part rest end end)) 0))
               where
                 taken : (g : Bool)
                     → passedBy (validBytes d) d rest rows below (if g then readRows (validBytes d) d rest rs end (markedWith m (ltb end end)) else none) ≡ Faulty
@@ -540,7 +539,7 @@ module _ (d : Delimiters) (apart : eqb (d .element) (d .terminator) ≡ false) (
       row = rowIs r (codesIn rs)
 
       abbrev good : Bool
-      good = eqb (codeBy true row (part rest (start c) (next c))) 0
+      good = eqb (rowCode row (part rest (start c) (next c))) 0
 
       -- the marks with its place
       abbrev more : Marks
@@ -561,7 +560,7 @@ module _ (d : Delimiters) (apart : eqb (d .element) (d .terminator) ≡ false) (
       -- where they are, the value and the rows after it decide
       row-taken : all (valid d) (field fields n) ≡ true → Says rs (n + 1) (next c) more → Says (r ∷ rs) n end m
       row-taken e f =
-          let code : codeBy true row (field fields n) ≡ elementCode d row (field fields n) = rw e at (code-is d row (field fields n)) in
+          let code : rowCode row (field fields n) ≡ elementCode d row (field fields n) = code-is d row (field fields n) e in
           let said : good ≡ eqb (elementCode d row (field fields n)) 0 = rw (field-is c e, code) in
           rw (read, left said, same-notes) (go good (readRows (validBytes d) d rest rs (next c) more) (silent rs (n + 1)) (sound rs) f)
         where

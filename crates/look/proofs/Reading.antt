@@ -18,10 +18,10 @@ use Rattle.text.proofs.Where.{index-le, next-here, next-later, next-none, next-
 use Rattle.tables.specs.Rows.{isRow}
 use Rattle.tables.specs.Reading.{Guide, rowAt, noteAt, rowBelow}
 use Rattle.tables.proofs.Laws.{row-within}
-use Rattle.elements.specs.Values.{codeBy, takesLength}
+use Rattle.elements.specs.Values.{rowCode, takesLength}
 use Rattle.elements.specs.Marks.{noMarks, markedWith, marked, breaksNote}
 use Rattle.elements.specs.declared.Marks.{Marks}
-use Rattle.elements.proofs.Codes.{code-filled, takes-length}
+use Rattle.elements.proofs.Codes.{valid-filled, takes-length}
 use Rattle.look.specs.Bytes.{isOther}
 use Rattle.look.specs.Passing.{idEnd, startAfter, isOver, begins, stops, marksWith, readRows, passed}
 use Rattle.look.specs.declared.segment.Passed.the-variants.{Clean, Faulty}
@@ -43,11 +43,11 @@ begins-within e rest end h = go (ltb end (length rest)) (eqb (getD rest end 0) e
 
 -- what a field comes to that is taken by its length alone, where there is one
 pub taken-by : (r : Row) (rest : Bytes) (start end : ℕ) → start < end → end ≤ length rest → takesLength r (end - start) ≡ true
-    → eqb (codeBy true r (part rest start end)) 0 ≡ true
+    → eqb (rowCode r (part rest start end)) 0 ≡ true
 taken-by r rest start end h l e =
     let size : length (part rest start end) ≡ end - start = omega (arith, length-take (end - start) (drop start rest), length-drop start rest) in
     let none = takes-length r (part rest start end) (rw size e) in
-    rw (code-filled r (part rest start end) true (λ z. omega arith), none)
+    rw (valid-filled r (part rest start end) (λ z. omega arith), none)
 
 module _ (table : List Bool) (d : Delimiters) (rest : Bytes) (rows : Guide) (k end : ℕ) (m : Marks) where
   here : k < length rows → drop k rows ≡ getD rows k [] ∷ drop (k + 1) rows
@@ -62,7 +62,7 @@ module _ (table : List Bool) (d : Delimiters) (rest : Bytes) (rows : Guide) (k e
 
   pub read-row : k < length rows → isRow 1 (getD rows k []) ≡ false → isRow 2 (getD rows k []) ≡ true
       → readRows table d rest (drop k rows) end m
-      ≡ (if eqb (codeBy true (rowAt rows k) (part rest (begins table d rest end) (stops table d rest end))) 0
+      ≡ (if eqb (rowCode (rowAt rows k) (part rest (begins table d rest end) (stops table d rest end))) 0
       then readRows table d rest (drop (k + 1) rows) (stops table d rest end) (marksWith table d rest m end) else none)
   unfolding readRows
   read-row h e f = rw (here h, e, f)
@@ -120,7 +120,7 @@ module _ {table : List Bool} {d : Delimiters} {rest : Bytes} {rows : Guide} {ent
     field-ends = rw g (next-within (isOther table) rest start (rw p (begins-within (d .element) rest end (r .within))))
 
     module _ (h : k < length rows) (e : isRow 1 (getD rows k []) ≡ false) (f : isRow 2 (getD rows k []) ≡ true)
-        {taken : Bool} (q : taken ≡ eqb (codeBy true (rowAt rows k) (part rest start stop)) 0) where
+        {taken : Bool} (q : taken ≡ eqb (rowCode (rowAt rows k) (part rest start stop)) 0) where
       pub read-taken : taken ≡ true → {marks : Marks} → marks ≡ markedWith m (ltb start stop) → ReadTo table d rest rows entry id (k + 1) stop marks
       read-taken t w = record {
         left = r .left ∙ read-row table d rest rows k end m h e f ∙ rw (← stopped, ← p, ← q, t, w);

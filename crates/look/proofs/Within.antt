@@ -15,7 +15,7 @@ use Rattle.text.specs.Text.{nextWhere, part}
 use Rattle.text.proofs.Where.{next-within}
 use Rattle.tables.specs.Rows.{isRow, rowIs, noteIs, codesIn}
 use Rattle.tables.specs.Reading.{Guide, rowBelow}
-use Rattle.elements.specs.Values.{codeBy}
+use Rattle.elements.specs.Values.{rowCode}
 use Rattle.elements.specs.Marks.{noMarks, marked, breaksNote}
 use Rattle.elements.specs.declared.Marks.{Marks}
 use Rattle.sets.specs.Places.{closedAt}
@@ -47,7 +47,7 @@ module _ (table : List Bool) (d : Delimiters) (rest : Bytes) where
   unfolding readRows
   read-within [] end m h = h
   read-within (r ∷ rows) end m h =
-      go (isRow 1 r) (isRow 2 r) (eqb (codeBy true (rowIs r (codesIn rows)) (part rest (begins table d rest end) (stops table d rest end))) 0)
+      go (isRow 1 r) (isRow 2 r) (eqb (rowCode (rowIs r (codesIn rows)) (part rest (begins table d rest end) (stops table d rest end))) 0)
       (isRow 4 r && breaksNote (marked m) (noteIs r))
       (read-within rows (stops table d rest end) (marksWith table d rest m end) (stops-within end h)) (read-within rows end m h)
     where

@@ -10,7 +10,7 @@ use Rattle.rules.specs.declared.Delimiters.{Delimiters}
 use Rattle.text.specs.Text.{indexWhere, nextWhere, part}
 use Rattle.tables.specs.Rows.{isRow, rowIs, noteIs, codesIn}
 use Rattle.tables.specs.Reading.{Guide, rowBelow}
-use Rattle.elements.specs.Values.{codeBy}
+use Rattle.elements.specs.Values.{rowCode}
 use Rattle.elements.specs.Marks.{noMarks, markedWith, marked, breaksNote}
 use Rattle.elements.specs.declared.Marks.{Marks}
 use Rattle.look.specs.Bytes.{isOther}
@@ -49,7 +49,7 @@ module _ (table : List Bool) (d : Delimiters) (rest : Bytes) where
       let next = readRows rs (stops end) (marksWith m end) in
       let here = readRows rs end m in
       if isRow 1 r then some end
-      else (if isRow 2 r then (if eqb (codeBy true (rowIs r (codesIn rs)) (part rest (begins end) (stops end))) 0 then next else none)
+      else (if isRow 2 r then (if eqb (rowCode (rowIs r (codesIn rs)) (part rest (begins end) (stops end))) 0 then next else none)
       else (if isRow 4 r && breaksNote (marked m) (noteIs r) then none else here))
 
   -- the segment by where its last field ends: it ends there too, or something is found

@@ -6,7 +6,7 @@ ghost use lib.Dec.{eqb};
 ghost use lib.ListN.{length};
 ghost use Rattle.text.specs.Text.{nextWhere, part};
 ghost use Rattle.tables.specs.Reading.{rowAt};
-ghost use Rattle.elements.specs.Values.{codeBy};
+ghost use Rattle.elements.specs.Values.{rowCode};
 ghost use Rattle.look.specs.Bytes.{isOther};
 ghost use Rattle.look.specs.Passing.{idEnd, startAfter, isOver, passed};
 use elements::Marks;
@@ -70,7 +70,7 @@ fn is_over(rest: &[u8], t: u8, end: usize) -> bool
 // The bytes from `start` to `end` have no code by row k. Most rows ask only how many they are, so that is tried first.
 fn is_taken(rest: &[u8], start: usize, end: usize, guide: &[[u16; 6]], k: usize) -> bool
     requires { ⌜ (start ≤ end) × (end ≤ length (now rest)) ⌝ }
-    ensures { λ r. ⌜ r ≡ eqb (codeBy true (rowAt (now (guide .entry)) k) (part (now (rest .entry)) start end)) 0 ⌝ }
+    ensures { λ r. ⌜ r ≡ eqb (rowCode (rowAt (now (guide .entry)) k) (part (now (rest .entry)) start end)) 0 ⌝ }
 {
     if start < end && elements::takes_length(end - start, guide, k) {
         return true;

@@ -2,7 +2,7 @@
 use mathlib.Core.Path.{_≡_, refl, sym, _∙_, ap}
 use mathlib.Core.Bool.{Bool, true, false, _&&_, not, true≢false}
 use mathlib.Core.List.{List, [], _∷_, _++_, map, map-append}
-use Prim.Native.Nat.{ℕ, zero, suc, _+_, _<_, _≤_}
+use Prim.Native.Nat.{ℕ, zero, suc, _+_, _<_, _≤_, min, max}
 use native.Mathlib.Nat.{zero-add}
 use native.Mathlib.Omega.{arith}
 use borrow.Author.Tests.{ne-eqb}
@@ -111,19 +111,25 @@ module _ (id : Bytes) (n own : ℕ) (faulty : Bool) where
       go true false q = absurd (true≢false q)
       go false b q = refl
 
--- 3. The findings of a place, one by one.
+-- 3. The findings of a place, one by one, the lower code first.
 pub findings-two : (s : Bytes) (p : PlaceCodes)
     → map ak4 (findingsAt s p)
-    ≡ map ak4 (findingOf (findingIn s (findingBy p (p .own)))) ++ map ak4 (findingOf (findingIn s (findingBy p (p .noted))))
+    ≡ map ak4 (findingOf (findingIn s (findingBy p (min (p .own) (p .noted))))) ++ map ak4 (findingOf (findingIn s (findingBy p (max (p .own) (p .noted)))))
 unfolding findingsAt every
-findings-two s p = go (eqb (p .own) 0) (eqb (p .noted) 0)
+findings-two s p = go (eqb lower 0) (eqb higher 0)
   where
+    lower : ℕ
+    lower = min (p .own) (p .noted)
+
+    higher : ℕ
+    higher = max (p .own) (p .noted)
+
     one : ℕ → Finding
     one c = findingIn s (findingBy p c)
 
     go : (a b : Bool)
-        → map ak4 (map one (every ((not a ⇒ p .own) ∷ (not b ⇒ p .noted) ∷ [])))
-        ≡ map ak4 (if a then [] else one (p .own) ∷ []) ++ map ak4 (if b then [] else one (p .noted) ∷ [])
+        → map ak4 (map one (every ((not a ⇒ lower) ∷ (not b ⇒ higher) ∷ [])))
+        ≡ map ak4 (if a then [] else one lower ∷ []) ++ map ak4 (if b then [] else one higher ∷ [])
     go true true = refl
     go true false = refl
     go false true = refl

@@ -221,12 +221,12 @@ fn add_finding(out: &mut [u8], told: Told, s: &[u8], d: Delimiters, f: Finding) 
     one_more(told, add_ak4(out, told.length, s, d, f))
 }
 
-// An AK4 for each code of a place.
+// An AK4 for each code of a place, the lower first.
 fn add_codes(out: &mut [u8], told: Told, s: &[u8], d: Delimiters, c: PlaceCodes) -> Told
     ensures { λ r. ⌜ Adds d (map ak4 (findingsAt (now (s .entry)) c)) told r (now (out .entry)) (now (out .exit)) ⌝ }
 {
-    let told = add_finding(out, told, s, d, c.finding(c.own));
-    add_finding(out, told, s, d, c.finding(c.noted))
+    let told = add_finding(out, told, s, d, c.finding(c.lower()));
+    add_finding(out, told, s, d, c.finding(c.higher()))
 }
 
 // The findings of a segment from what is found on, an AK4 for each.

@@ -9,6 +9,7 @@ use Rattle.rules.specs.Response.{out, ak3s}
 use Rattle.rules.specs.declared.Delimiters.{Delimiters}
 use Rattle.rules.specs.declared.Kind.the-variants.{AN, ID, N0, DT, TM}
 use Rattle.rules.specs.declared.Relation.the-variants.{E}
+use Rattle.rules.specs.declared.Repetition.the-variants.{By}
 
 unfoldable pub t1Rows : List Row
 t1Rows =
@@ -33,9 +34,9 @@ otherTable = record {
       [];
 }
 
--- the delimiters * > ~
+-- the delimiters * > ~ ^
 abbrev pub otherDelimiters : Delimiters
-otherDelimiters = record { element = 42; component = 62; terminator = 126 }
+otherDelimiters = record { element = 42; component = 62; terminator = 126; repetition = By 94 }
 
 -- the notes of a set with a trailer, by its segments
 abbrev pub otherNotes : List Segment → List Note

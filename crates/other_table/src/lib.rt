@@ -2,6 +2,7 @@
 ghost use Rattle.writing.specs.Over.{Wrote};
 ghost use Rattle.other_table.specs.OtherTable.{notesText};
 use rules::Delimiters;
+use rules::Repetition;
 use tables::AN;
 use tables::DT;
 use tables::E;
@@ -42,11 +43,7 @@ const ROWS: [[u16; 6]; 17] = [
 pub extern "C" fn x12_other_table_notes(set: &[u8], out: &mut [u8]) -> usize
     ensures { λ r. ⌜ Wrote (notesText (now (set .entry))) r (now (out .entry)) (now (out .exit)) ⌝ }
 {
-    let d = Delimiters {
-        element: b'*',
-        component: b'>',
-        terminator: b'~',
-    };
+    let d = Delimiters::new(b'*', b'>', b'~', Repetition::By(b'^'));
     let told = notes::put_notes(out, set, d, &DIRECTORY, &ROWS, true);
     told.length
 }

@@ -84,7 +84,7 @@ module _ (i lent : Bytes) (call : Call) (left : Bytes) (answered : left ≡ resp
     (among : m < length (groupsIn i)) where
   -- The block of set k of group m, its verdict and its echoes. Shut out: "accepted" for all, the first set's verdict for each, a test left out, a
   -- set's verdict in another's block or another group's 997, an ST02 of an earlier group taken for one of this; an echo cut at 98 or 100, under
-  -- code 6, without its minus, or of the element beside it.
+  -- code 6 or 12, without its minus, or of the element beside it.
   pub tells : (k : ℕ) (x : Set) (y : SetReport) → k < length (setsAt i m w) → Tells i lent call m w k x y left
   tells k x y h =
       let d = delimiters i in

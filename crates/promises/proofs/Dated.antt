@@ -1,7 +1,7 @@
 -- Where an interchange is answered, the caller's date, each GS04, and every B103 of an accepted set that is not empty are days of the calendar. `Faces`
 -- carries it to both faces.
 use mathlib.Core.Path.{_≡_, refl, sym, ap, _∙_}
-use mathlib.Core.Bool.{Bool, true, false, _&&_, not, true≢false}
+use mathlib.Core.Bool.{Bool, true, false, _&&_, _||_, not, true≢false}
 use mathlib.Core.List.{List, [], _∷_, _++_, map, append-eq-nil-iff, cons-ne-nil}
 use mathlib.Core.Option.{some}
 use Prim.Native.Nat.{ℕ, zero, suc, _+_, _/_, _%_, _<_}
@@ -11,7 +11,7 @@ use Rattle.rules.specs.Base.{Bytes, ascii, null, any, same, between, first, eve
 use Rattle.rules.specs.Cutting.{Segment, field, delimiters}
 use Rattle.rules.specs.Numbers.{digits, value, isDay, isDate}
 use Rattle.rules.specs.Tables.{Row, Syntax, Table, row, O, directory, b1Rows, table006010, table004010}
-use Rattle.rules.specs.Elements.{spelled, elementCode, lacks, shutsOut, placeCodes, Finding, found, findingsFrom, findings}
+use Rattle.rules.specs.Elements.{repeats, spelled, elementCode, lacks, shutsOut, placeCodes, Finding, found, findingsFrom, findings}
 use Rattle.rules.specs.Segments.{Present, before, again, later, compared, entryAt, indexFrom, standing, ownCode, moved, skipped, findingsBy, missing, echoed, noted, segmentNote, walk, notesOf}
 use Rattle.rules.specs.Sets.{Set, SetReport}
 use Rattle.rules.specs.Groups.{Group, sets, groupReport}
@@ -44,31 +44,37 @@ date bs e = record {
 dt : Row
 dt = row 373 O DT 8 8 []
 
-coded : (spelled short long date : Bool)
-    → between 4 9 (first ((not spelled ⇒ 6) ∷ (short ⇒ 4) ∷ (long ⇒ 5) ∷ (false ⇒ 7) ∷ (not date ⇒ 8) ∷ (false ⇒ 9) ∷ [])) ≡ false → date ≡ true
-unfolding first
-coded spelled short long true e = refl
-coded false short long false e = absurd (true≢false e)
-coded true true long false e = absurd (true≢false e)
-coded true false true false e = absurd (true≢false e)
-coded true false false false e = absurd (true≢false e)
+-- a code of a value that is not empty
+abbrev isCode : ℕ → Bool
+isCode c = between 4 9 c || eqb c 12
 
-uncoded : (d : Delimiters) (bs : Bytes) → null bs ≡ false → between 4 9 (elementCode d dt bs) ≡ false → isDate bs ≡ true
+coded : (repeated spelled short long date : Bool)
+    → isCode (first ((repeated ⇒ 12) ∷ (not spelled ⇒ 6) ∷ (short ⇒ 4) ∷ (long ⇒ 5) ∷ (false ⇒ 7) ∷ (not date ⇒ 8) ∷ (false ⇒ 9) ∷ [])) ≡ false → date ≡ true
+unfolding first
+coded repeated spelled short long true e = refl
+coded true spelled short long false e = absurd (true≢false e)
+coded false false short long false e = absurd (true≢false e)
+coded false true true long false e = absurd (true≢false e)
+coded false true false true false e = absurd (true≢false e)
+coded false true false false false e = absurd (true≢false e)
+
+uncoded : (d : Delimiters) (bs : Bytes) → null bs ≡ false → isCode (elementCode d dt bs) ≡ false → isDate bs ≡ true
 unfolding elementCode dt
-uncoded d bs f e = coded (spelled d DT bs) (ltb (length bs) 8) (ltb 8 (length bs)) (isDate bs) (rw f at e)
+uncoded d bs f e = coded (repeats d bs) (spelled d DT bs) (ltb (length bs) 8) (ltb 8 (length bs)) (isDate bs) (rw f at e)
 
 map-nil : {A B : Type 0} (f : A → B) (xs : List A) → map f xs ≡ [] → xs ≡ []
 map-nil f [] e = refl
 map-nil f (x ∷ xs) e = absurd (cons-ne-nil (f x) (map f xs) e)
 
 row-clear : (d : Delimiters) (notes : List Syntax) (s : Segment) (n : ℕ) (r : Row) (rs : List Row) → findingsFrom d notes s n (r ∷ rs) ≡ []
-    → (between 4 9 (elementCode d r (field s n)) ≡ false) × (findingsFrom d notes s (n + 1) rs ≡ [])
+    → (isCode (elementCode d r (field s n)) ≡ false) × (findingsFrom d notes s (n + 1) rs ≡ [])
 unfolding findingsFrom placeCodes
 row-clear d notes s n r rs e =
     let own = elementCode d r (field s n) in
-    let rules = (eqb own 1 ⇒ 1) ∷ (lacks notes s n ⇒ 2) ∷ (between 4 9 own ⇒ own) ∷ (shutsOut notes s n ⇒ 10) ∷ [] in
+    let rules = (eqb own 1 ⇒ 1) ∷ (lacks notes s n ⇒ 2) ∷ (between 4 9 own ⇒ own) ∷ (shutsOut notes s n ⇒ 10) ∷ (eqb own 12 ⇒ 12) ∷ [] in
     let parts = append-eq-nil-iff {p = map (found d s r n) (every rules)} {q = findingsFrom d notes s (n + 1) rs} .0 e in
-    (none-given rules .0 (ap null (map-nil (found d s r n) (every rules) (parts .0))) .1 .1 .0, parts .1)
+    let none = none-given rules .0 (ap null (map-nil (found d s r n) (every rules) (parts .0))) in
+    (rw (none .1 .1 .0) (none .1 .1 .1 .1 .0), parts .1)
 
 -- 2. A B1 without findings has a date in B103, or nothing.
 b1-dated : (d : Delimiters) (s : Segment) → null (field s 3) ≡ false → findingsFrom d [] s 1 b1Rows ≡ [] → isDate (field s 3) ≡ true

@@ -14,7 +14,7 @@ use Rattle.writing.specs.Over.{Wrote, From}
 use Rattle.notes.specs.Saying.{Tells}
 use Rattle.notes.specs.declared.Told.{Told}
 use Rattle.rules.proofs.Delimiters.new.Reads as rules-Delimiters-new
-use Rattle.rules.proofs.Delimiters.marks.Reads as rules-Delimiters-marks
+use Rattle.rules.proofs.Delimiters.separates_repetitions.Reads as rules-Delimiters-separates-repetitions
 use Rattle.rules.proofs.Delimiters.is_mark.Reads as rules-Delimiters-is-mark
 use Rattle.rules.proofs.Finding.new.Reads as rules-Finding-new
 use Rattle.text.proofs.find_near.Reads as text-find-near
@@ -87,6 +87,8 @@ use Rattle.verdicts.proofs.set_codes.Reads as verdicts-set-codes
 use Rattle.verdicts.proofs.summary_of.Reads as verdicts-summary-of
 use Rattle.verdicts.proofs.closes.Reads as verdicts-closes
 use Rattle.elements.proofs.Found.is_some.Reads as elements-Found-is-some
+use Rattle.elements.proofs.PlaceCodes.lower.Reads as elements-PlaceCodes-lower
+use Rattle.elements.proofs.PlaceCodes.higher.Reads as elements-PlaceCodes-higher
 use Rattle.elements.proofs.PlaceCodes.finding.Reads as elements-PlaceCodes-finding
 use Rattle.elements.proofs.next_found.Reads as elements-next-found
 use Rattle.elements.proofs.first_found.Reads as elements-first-found
@@ -167,8 +169,8 @@ both-same p q = rw (p, q)
 rules-Delimiters-new-once : Determined rules-Delimiters-new.Pre rules-Delimiters-new.Post (λ κs r s. r)
 rules-Delimiters-new-once = ((λ κs a. tt), λ κs a r₁ r₂ s₁ s₂ p q. p ∙ sym q)
 
-rules-Delimiters-marks-once : Determined rules-Delimiters-marks.Pre rules-Delimiters-marks.Post (λ κs r s. r)
-rules-Delimiters-marks-once = ((λ κs a. tt), λ κs a r₁ r₂ s₁ s₂ p q. p ∙ sym q)
+rules-Delimiters-separates-repetitions-once : Determined rules-Delimiters-separates-repetitions.Pre rules-Delimiters-separates-repetitions.Post (λ κs r s. r)
+rules-Delimiters-separates-repetitions-once = ((λ κs a. tt), λ κs a r₁ r₂ s₁ s₂ p q. p ∙ sym q)
 
 rules-Delimiters-is-mark-once : Determined rules-Delimiters-is-mark.Pre rules-Delimiters-is-mark.Post (λ κs r s. r)
 rules-Delimiters-is-mark-once = ((λ κs a. tt), λ κs a r₁ r₂ s₁ s₂ p q. p ∙ sym q)
@@ -384,6 +386,12 @@ verdicts-summary-of-once = ((λ κs a. tt), λ κs a r₁ r₂ s₁ s₂ p q. p 
 -- elements
 elements-Found-is-some-once : Determined elements-Found-is-some.Pre elements-Found-is-some.Post (λ κs r s. r)
 elements-Found-is-some-once = ((λ κs a. tt), λ κs a r₁ r₂ s₁ s₂ p q. p ∙ sym q)
+
+elements-PlaceCodes-lower-once : Determined elements-PlaceCodes-lower.Pre elements-PlaceCodes-lower.Post (λ κs r s. r)
+elements-PlaceCodes-lower-once = ((λ κs a. tt), λ κs a r₁ r₂ s₁ s₂ p q. p ∙ sym q)
+
+elements-PlaceCodes-higher-once : Determined elements-PlaceCodes-higher.Pre elements-PlaceCodes-higher.Post (λ κs r s. r)
+elements-PlaceCodes-higher-once = ((λ κs a. tt), λ κs a r₁ r₂ s₁ s₂ p q. p ∙ sym q)
 
 elements-PlaceCodes-finding-once : Determined elements-PlaceCodes-finding.Pre elements-PlaceCodes-finding.Post (λ κs r s. r)
 elements-PlaceCodes-finding-once = ((λ κs a. tt), λ κs a r₁ r₂ s₁ s₂ p q. p ∙ sym q)

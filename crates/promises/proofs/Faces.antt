@@ -15,6 +15,7 @@ use Rattle.rules.specs.Answers.{Reply, functionalAcknowledgment, Outcome, outco
 use Rattle.rules.specs.Damage.{groupsIn}
 use Rattle.rules.specs.declared.Call.{Call}
 use Rattle.rules.proofs.Exchange.{received, sent, sampleCall, receivedTwo, sentTwo, Faulty, faulty, receivedOf, refusalOf}
+use Rattle.rules.proofs.Caret.{Repeated, repeated, receivedUnder, sentUnder, Barred, barred, receivedWith, barredBy}
 use Rattle.rules.proofs.Marked.{Marked, marked, receivedFor, sentFor}
 use Rattle.rules.proofs.Tempting.{Group as Tempted, groups, receivedIn, sentIn}
 use Rattle.rules.proofs.Unused.{isSpared, respond-spared}
@@ -51,7 +52,7 @@ pub record Promised (i lent : Bytes) (call : Call) (o : Outcome) : Type 0 where
   pub unused : o .number ≡ 0 → all isSpared (respond i (groupsIn i) call) ≡ true
   -- an answer has the block of set k of group m in its place; its AK5 says A exactly when the set is sound, and its AK4 show of the elements that they name
   -- what they may: shut out are "accepted" for all, the first set's verdict for each, a test left out, an echo that is cut at 98 or 100, one under
-  -- code 6, one without its minus, and one of the element beside it
+  -- code 6 or 12, one without its minus, and one of the element beside it
   pub sets : o .number ≡ 0 → (m : ℕ) (w : Group) → m < length (groupsIn i)
       → (k : ℕ) (x : Set) (y : SetReport) → k < length (setsAt i m w) → Tells i lent call m w k x y (o .buffer)
   -- an answer has a 997 for group m, the one with the number m + 1, and says in its AK903 how many ST segments the group has: shut out are AK903 from
@@ -77,6 +78,12 @@ pub record Promised (i lent : Bytes) (call : Call) (o : Outcome) : Type 0 where
   -- order
   pub faulty : (f : Faulty) (k : ℕ) → k < length faulty → i ≡ receivedOf (getD faulty k f) → call ≡ sampleCall
       → o ≡ record { number = refusalOf (getD faulty k f); size = 0; buffer = lent }
+  -- elements with a repetition separator, row k of their table: shut out is a program that finds 12 elsewhere or shows such a value
+  pub repeated : (r : Repeated) (k : ℕ) → k < length repeated → i ≡ receivedUnder (getD repeated k r) → call ≡ sampleCall
+      → length (sentUnder (getD repeated k r)) ≤ length lent → o ≡ holding (sentUnder (getD repeated k r)) lent
+  -- separators that are refused, row k of their table: shut out is a program that takes a letter or a delimiter for one, or lets one into a name
+  pub barred : (b : Barred) (k : ℕ) → k < length barred → i ≡ receivedWith "00601" (getD barred k b) → call ≡ sampleCall
+      → o ≡ record { number = barredBy (getD barred k b); size = 0; buffer = lent }
 
 module _ (i lent : Bytes) (call : Call) (o : Outcome) (p : o ≡ called (functionalAcknowledgment i call) lent) where
   -- the outcome of a call on what is known to be received
@@ -116,6 +123,8 @@ module _ (i lent : Bytes) (call : Call) (o : Outcome) (p : o ≡ called (functio
     exchange-too-long = λ e f h. onto e f ∙ shown.exchange-too-long lent h;
     two = λ e f room. onto e f ∙ shown.two-shown lent room;
     faulty = λ row k h e f. onto e f ∙ shown.faulty-shown row k h lent;
+    repeated = λ row k h e f room. onto e f ∙ shown.repeated-shown row k h lent room;
+    barred = λ row k h e f. onto e f ∙ shown.barred-shown row k h lent;
   }
 
 -- All of it holds of the Rattle function,

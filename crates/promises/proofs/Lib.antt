@@ -9,5 +9,7 @@ pub mod Faces
 pub mod Agreement
 pub mod Alone
 pub mod OneGroup
+pub mod Unrepeated
+pub mod Repeating
 pub mod Printed
 pub mod Determined

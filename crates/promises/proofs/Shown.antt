@@ -7,8 +7,9 @@ use native.Mathlib.Omega.{arith}
 use borrow.Author.Tests.{not-true, ne-eqb, eqb-true, eqb-false, leb-true, le-leb, lt-leb}
 use lib.Dec.{leb, eqb}
 use lib.ListN.{length, drop, getD}
-use Rattle.rules.specs.Base.{Bytes, same}
+use Rattle.rules.specs.Base.{Bytes, same, if_then_else_}
 use Rattle.rules.specs.Refusals.{refusal}
+use Rattle.rules.specs.InterchangeAcknowledgment.{interchangeRefusal}
 use Rattle.rules.specs.Answers.{Reply, functionalAcknowledgment, interchangeAcknowledgment, Outcome, answer, called}
 use Rattle.rules.proofs.Logic.{and-left, and-right, all-at, same→eq}
 use Rattle.rules.proofs.Exchange.{received, sent, sampleCall, not-refused, responds, receivedTwo, sentTwo, two-not-refused, two-respond, Faulty, faulty, receivedOf, refusalOf, isRefused, all-refused}
@@ -16,6 +17,8 @@ use Rattle.rules.proofs.Marked.{Marked, marked, receivedFor, sentFor}
 use Rattle.rules.proofs.Tempting.{Group, groups, receivedIn, sentIn}
 use Rattle.rules.proofs.Marked as single
 use Rattle.rules.proofs.Tempting as whole
+use Rattle.rules.proofs.Caret.{Repeated, repeated, receivedUnder, sentUnder, Barred, barred, receivedWith, barredBy, formerly, isBarred, all-barred}
+use Rattle.rules.proofs.Caret as caret
 use Rattle.rules.proofs.Envelopes.{Row, envelopes, receivedAs, sentAs}
 use Rattle.rules.proofs.Envelopes as ta1
 
@@ -107,6 +110,15 @@ exchange-too-long lent h = too-long (functionalAcknowledgment received sampleCal
 pub two-shown : (lent : Bytes) → length sentTwo ≤ length lent → called (functionalAcknowledgment receivedTwo sampleCall) lent ≡ holding sentTwo lent
 two-shown lent room = held (functionalAcknowledgment receivedTwo sampleCall) sentTwo lent two-not-refused two-respond room
 
+-- a test that an interchange is refused with this number
+refused-by : (reply : Reply) (n : ℕ) (lent : Bytes) → not (eqb n 0) && eqb (reply .refusal) n ≡ true
+    → called reply lent ≡ record { number = n; size = 0; buffer = lent }
+refused-by reply n lent h =
+    let some = not (eqb n 0) in
+    let by = eqb (reply .refusal) n in
+    let number = eqb-true (reply .refusal) n (and-right some by h) in
+    refused reply lent (λ z. eqb-false n 0 (not-true (eqb n 0) (and-left some by h)) (sym number ∙ z)) ∙ rw number
+
 -- Faulty interchanges, row k of their table: each is refused with its number. Shut out: a program that skips a group, or that checks them in another
 -- order.
 pub faulty-shown : (f : Faulty) (k : ℕ) → k < length faulty → (lent : Bytes)
@@ -115,14 +127,31 @@ pub faulty-shown : (f : Faulty) (k : ℕ) → k < length faulty → (lent : Byte
 unfolding isRefused
 faulty-shown f k h lent =
     let row = getD faulty k f in
-    let n = refusalOf row in
-    let right = all-at isRefused faulty f k all-refused h in
-    let some = not (eqb n 0) in
-    let by = eqb (refusal (receivedOf row) sampleCall) n in
-    let number = eqb-true (refusal (receivedOf row) sampleCall) n (and-right some by right) in
-    refused (functionalAcknowledgment (receivedOf row) sampleCall) lent
-    (λ z. eqb-false n 0 (not-true (eqb n 0) (and-left some by right)) (sym number ∙ z))
-    ∙ rw number
+    refused-by (functionalAcknowledgment (receivedOf row) sampleCall) (refusalOf row) lent (all-at isRefused faulty f k all-refused h)
+
+-- Elements with a repetition separator, row k of their table. Shut out: a program that finds 12 elsewhere, shows such a value, or takes ISA12 for another
+-- version.
+pub repeated-shown : (r : Repeated) (k : ℕ) → k < length repeated → (lent : Bytes) → length (sentUnder (getD repeated k r)) ≤ length lent
+    → called (functionalAcknowledgment (receivedUnder (getD repeated k r)) sampleCall) lent ≡ holding (sentUnder (getD repeated k r)) lent
+unfolding caret.isRight
+repeated-shown r k h lent room =
+    let row = getD repeated k r in
+    held-by (functionalAcknowledgment (receivedUnder row) sampleCall) (sentUnder row) lent (all-at caret.isRight repeated r k caret.all-repeated h) room
+
+-- Separators that are refused, row k of their table, with ISA12 00601. Shut out: a program that takes a letter or a delimiter for a separator, or lets one
+-- into a name.
+pub barred-shown : (b : Barred) (k : ℕ) → k < length barred → (lent : Bytes)
+    → called (functionalAcknowledgment (receivedWith "00601" (getD barred k b)) sampleCall) lent
+    ≡ record { number = barredBy (getD barred k b); size = 0; buffer = lent }
+unfolding isBarred
+barred-shown b k h lent =
+    let row = getD barred k b in
+    let n = barredBy row in
+    let i = receivedWith "00601" row in
+    let by = not (eqb n 0) && eqb (refusal i sampleCall) n in
+    let ta1 = eqb (interchangeRefusal i sampleCall) (if leb n 5 then n else 0) in
+    let former = eqb (refusal (receivedWith "00401" row) sampleCall) (formerly row) in
+    refused-by (functionalAcknowledgment i sampleCall) n lent (and-left by ta1 (and-left (by && ta1) former (all-at isBarred barred b k all-barred h)))
 
 -- The envelopes of change requests 3 and 6, row k of their table. Shut out: a program that draws one of these lines elsewhere.
 pub envelopes-shown : (e : Row) (k : ℕ) → k < length envelopes → (lent : Bytes) → length (sentAs (getD envelopes k e)) ≤ length lent

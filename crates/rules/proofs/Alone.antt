@@ -1,7 +1,7 @@
 -- Each group of an answered interchange, alone in its interchange, is answered too, and its 997 is the same but for ST02 and SE02. An
 -- interchange that passes 1 to 8 is refused for what its first group that is refused alone is refused for.
 use mathlib.Core.Path.{_≡_, refl, sym, _∙_, ap, subst}
-use mathlib.Core.Bool.{Bool, true, false, _&&_, _||_, not, false≢true, true≢false}
+use mathlib.Core.Bool.{Bool, true, false, _&&_, not, false≢true}
 use mathlib.Core.List.{List, [], _∷_, _++_, map, append-nil, append-assoc}
 use mathlib.Core.Option.{none, some}
 use Prim.Native.Nat.{ℕ, zero, suc, _+_, _≤_, _<_, suc-le-suc}
@@ -11,18 +11,18 @@ use borrow.Author.Tests.{not-true, eqb-true, eq-eqb, le-leb, leb-true}
 use lib.Dec.{T, leb, eqb}
 use lib.ListN.{length, take, getD, length-append}
 use lib.Seq.{take-at, length-take-le}
-use Rattle.rules.specs.Base.{Bytes, Rule, _⇒_, ascii, same, all, isNone, isDigit, isUpper, isLower, last, holds, member, between, first, if_then_else_}
-use Rattle.rules.specs.Cutting.{Segment, field, isNamed, delimiters, marks, valid, isa, segments}
+use Rattle.rules.specs.Base.{Bytes, Rule, _⇒_, ascii, same, all, isNone, isDigit, last, holds, member, between, first, if_then_else_}
+use Rattle.rules.specs.Cutting.{Segment, field, isNamed, segments, isa, delimiters, repetitionMark, marks, valid}
 use Rattle.rules.specs.Numbers.{digits, value, valueFrom, countIn, declares, padded, decimal}
 use Rattle.rules.specs.Groups.{Group, groupsOf, groupReport}
-use Rattle.rules.specs.Refusals.{callRules, headRules, endRules, envelopeRules, trailerRules, headerRules, answerRules, setRules, groupsRules, refusalRules, plain, hasISA, distinct, goodMarks, goodISA, isWholeGroup, enveloped, mostGroups, countsGroups, groupRules, refusal}
+use Rattle.rules.specs.Refusals.{callRules, headRules, endRules, envelopeRules, trailerRules, headerRules, answerRules, setRules, groupsRules, refusalRules, plain, hasISA, distinct, goodMarks, textFields, goodISA, isWholeGroup, enveloped, mostGroups, countsGroups, groupRules, refusal}
 use Rattle.rules.specs.Response.{fieldsOut, segmentOut, out, blocks, ak1, ak9, stOut, seOut, told, transactionSet, isaOut, gsOut, geOut, ieaOut, response}
 use Rattle.rules.specs.Damage.{free, isWhole, groupsIn, flatGroups, rebuilt, opening, closing, acknowledgmentOf, acknowledgmentsFrom, joined}
 use Rattle.rules.specs.declared.Call.{Call}
 use Rattle.rules.specs.declared.Delimiters.{Delimiters}
 use Rattle.rules.proofs.Logic.{same→eq, numbered, orElse, first-append, and-left, and-right, all-head, all-tail, all-cons, all-append, all-left, all-right, all-weaken, all-at, each-at}
 use Rattle.rules.proofs.Lengths.{padded-length, out-cons, out-nil, length-out-append}
-use Rattle.rules.proofs.Cuts.{segments-out, out-append}
+use Rattle.rules.proofs.Cuts.{segments-out, out-append, plain-other, digit-common}
 use Rattle.rules.proofs.GroupLaws.{Chain, no-group, open-group, closed-group}
 use Rattle.rules.proofs.Envelope.{delimiters-head, hasISA-head, isa-head, toEight, Passed, passed, eight-numbers, clear, passed-whole, passed-parts, first-cut, first-segment, around, groups-around, last-around}
 use Rattle.rules.proofs.Damage.{response-parts, out-last, inside-whole, rebuilt-own}
@@ -127,22 +127,6 @@ pub closed-before-last : (i : Bytes) (call : Call) → refusal i call ≡ 0 → 
 closed-before-last i call e k w h = chain-closed k w (passed-parts i call (clear i call e .passed) .chain) h
 
 -- 4. IEA.
--- a mark is no letter, digit or space
-plain-other : (t b : ℕ) → plain t ≡ true → plain b ≡ false → eqb b t ≡ false
-plain-other t b p q = go (eqb b t) refl
-  where
-    go : (c : Bool) → eqb b t ≡ c → eqb b t ≡ false
-    go false e = e
-    go true e = absurd (true≢false (sym p ∙ ap plain (sym (eqb-true b t e)) ∙ q))
-
-digit-common : (b : ℕ) → isDigit b ≡ true → not (plain b) ≡ true
-digit-common b e = rw e (go (isUpper b) (isLower b) (eqb b 32))
-  where
-    go : (u l s : Bool) → not (not (u || l || true || s)) ≡ true
-    go true l s = refl
-    go false true s = refl
-    go false false s = refl
-
 common-free : (t : ℕ) → plain t ≡ true → (bs : Bytes) → all (λ b. not (plain b)) bs ≡ true → free t bs ≡ true
 common-free t p =
     all-weaken (λ b. not (plain b)) (λ b. not (eqb b t)) (λ b h. rw (plain-other t b p (not-true (plain b) h)))
@@ -159,9 +143,10 @@ module _ (d : Delimiters) (isa13 : Bytes) (nine : digits 9 9 isa13 ≡ true) (p 
   iea-whole : isWhole d (ieaAlone isa13) ≡ true
   unfolding marks all
   iea-whole =
-      let others = d .component ∷ d .terminator ∷ [] in
-      let later = all-tail plain (d .component) (d .terminator ∷ []) (all-tail plain (d .element) others p) in
-      rw (free-of (d .element) (all-head plain (d .element) others p), free-of (d .terminator) (all-head plain (d .terminator) [] later))
+      let separator = repetitionMark (d .repetition) in
+      let others = d .component ∷ d .terminator ∷ separator in
+      let later = all-tail plain (d .component) (d .terminator ∷ separator) (all-tail plain (d .element) others p) in
+      rw (free-of (d .element) (all-head plain (d .element) others p), free-of (d .terminator) (all-head plain (d .terminator) separator later))
 
 -- it is no longer than the IEA of an interchange that passes 8
 ieaAlone-short : (d : Delimiters) (isa13 : Bytes) (iea : Segment) → length iea ≡ 3 → field iea 0 ≡ ascii "IEA" → 1 ≤ length (field iea 1) → field iea 2 ≡ isa13
@@ -223,7 +208,7 @@ module _ (i : Bytes) (call : Call) (p : Passed i call) (k : ℕ) (w : Group) (h 
   nine : digits 9 9 isa13 ≡ true
   unfolding goodISA
   nine =
-      let valids = all (all (valid d)) (isa i) in
+      let valids = all (all (valid d)) (textFields (d .repetition) (isa i)) in
       let test = member (field (isa i) 15) (ascii "P" ∷ ascii "T" ∷ ascii "I" ∷ []) in
       and-right valids (digits 9 9 isa13) (and-left (valids && digits 9 9 isa13) test (p .headed))
 

@@ -83,7 +83,7 @@ entry-rows zero (e ∷ es) = omega arith
 entry-rows (suc k) (e ∷ es) = omega (arith, entry-rows k es)
 
 -- 3. The notes of a set.
-placeCodes-short : (d : Delimiters) (notes : List Syntax) (s : Segment) (r : Row) (n : ℕ) → length (placeCodes d notes s r n) ≤ 4
+placeCodes-short : (d : Delimiters) (notes : List Syntax) (s : Segment) (r : Row) (n : ℕ) → length (placeCodes d notes s r n) ≤ 5
 unfolding placeCodes
 placeCodes-short d notes s r n = every-short _
 
@@ -98,7 +98,7 @@ found-short d s r n (c ∷ cs) =
     omega (arith, echo-short c (elementCode d r (field s n)) (field s n), found-short d s r n cs)
 
 findingsFrom-short : (d : Delimiters) (notes : List Syntax) (s : Segment) (n : ℕ) (rs : List Row)
-    → weight (findingsFrom d notes s n rs) ≤ perFinding * (4 * length rs + 1)
+    → weight (findingsFrom d notes s n rs) ≤ perFinding * (5 * length rs + 1)
 unfolding findingsFrom weight
 findingsFrom-short d notes s n [] =
     either (λ (fs : List Finding). weight fs ≤ perFinding) (ltb n (length s)) (omega arith) (omega arith)
@@ -112,13 +112,13 @@ findingsFrom-short d notes s n (r ∷ rs) =
     ))
 
 entry-short : (d : Delimiters) (t : Table) (k : ℕ) (s : Segment)
-    → weight (findings d (entryAt t k) s) ≤ perFinding * (4 * load (t .entries) + 1)
+    → weight (findings d (entryAt t k) s) ≤ perFinding * (5 * load (t .entries) + 1)
 unfolding findings
 entry-short d t k s =
     omega (arith, findingsFrom-short d (entryAt t k .notes) s 1 (entryAt t k .rows), entry-rows k (t .entries))
 
 findingsBy-short : (d : Delimiters) (t : Table) (st : Standing) (s : Segment)
-    → weight (findingsBy d t st s) ≤ perFinding * (4 * load (t .entries) + 1)
+    → weight (findingsBy d t st s) ≤ perFinding * (5 * load (t .entries) + 1)
 unfolding weight
 findingsBy-short d t unknown s = omega arith
 findingsBy-short d t unlisted s = omega arith
@@ -138,7 +138,7 @@ echoed-short id = pick (leb 2 (length id)) (leb (length id) 3) (all isUpperOrDig
 
 -- what a segment of a set can cause, in bytes
 abbrev perSegment : ℕ
-perSegment = 2950000
+perSegment = 3640000
 
 module _ (d : Delimiters) where
   missing-short : (n : ℕ) (es : List Entry) → length (out d (ak3s (missing n es))) ≤ 50 * load es
@@ -191,7 +191,7 @@ module _ (d : Delimiters) where
 -- 4. The sets of a group.
 -- what a set can cause besides: it has two segments more than its body, and may lack its trailer
 abbrev perSet : ℕ
-perSet = 8850300
+perSet = 10920300
 
 listed-short : (o : Option Segment) → length (listed o) ≤ 1
 listed-short none = omega arith

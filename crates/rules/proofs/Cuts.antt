@@ -1,16 +1,18 @@
--- Laws of cutting: what is cut is whole, and cutting and writing undo each other.
+-- Laws of cutting: what is cut is whole, cutting and writing undo each other, and which bytes are valid.
 use mathlib.Core.Path.{_≡_, refl, sym, _∙_, ap}
-use mathlib.Core.Bool.{Bool, true, false, not, false≢true}
+use mathlib.Core.Bool.{Bool, true, false, _||_, not, false≢true, true≢false}
 use mathlib.Core.List.{List, [], _∷_, _++_, map, append-nil, append-assoc}
-use Prim.Native.Nat.{ℕ}
-use borrow.Author.Tests.{not-true, eq-eqb, eqb-true, eqb-false}
-use lib.Dec.{eqb}
-use Rattle.rules.specs.Base.{Bytes, all, null, push, last}
-use Rattle.rules.specs.Cutting.{Segment, cutAt, pieces, split, segments}
+use Prim.Native.Nat.{ℕ, _≤_}
+use native.Mathlib.Omega.{arith}
+use borrow.Author.Tests.{not-true, eq-eqb, eqb-true, eqb-false, leb-true, le-leb}
+use lib.Dec.{leb, eqb}
+use Rattle.rules.specs.Base.{Bytes, between, isDigit, isUpper, isLower, all, any, null, push, last}
+use Rattle.rules.specs.Cutting.{Segment, cutAt, pieces, split, segments, marks, separatesRepetitions, valid}
+use Rattle.rules.specs.Refusals.{plain}
 use Rattle.rules.specs.Response.{fieldsOut, segmentOut, out}
 use Rattle.rules.specs.Damage.{free, isWhole}
 use Rattle.rules.specs.declared.Delimiters.{Delimiters}
-use Rattle.rules.proofs.Logic.{and-left, and-right, all-head, all-tail, all-cons, all-append}
+use Rattle.rules.proofs.Logic.{and-left, and-right, or-left, or-right, all-head, all-tail, all-cons, all-append}
 
 free-head : (t x : ℕ) (xs : Bytes) → free t (x ∷ xs) ≡ true → eqb x t ≡ false
 free-head t x xs e = not-true (eqb x t) (all-head (λ b. not (eqb b t)) x xs e)
@@ -171,3 +173,58 @@ pub out-append : (d : Delimiters) (xs ys : List Segment) → out d (xs ++ ys) �
 unfolding out
 out-append d [] ys = refl
 out-append d (x ∷ xs) ys = rw (out-append d xs ys) (sym (append-assoc (segmentOut d x) (out d xs) (out d ys)))
+
+-- 6. A valid byte differs from each delimiter.
+pub valid-apart : (d : Delimiters) (b : ℕ) → valid d b ≡ true
+    → (eqb b (d .element) ≡ false) × (eqb b (d .component) ≡ false) × (eqb b (d .terminator) ≡ false) × (separatesRepetitions d b ≡ false)
+unfolding valid marks any separatesRepetitions
+valid-apart d b e =
+    let r = separatesRepetitions d b in
+    let t = eqb b (d .terminator) || r in
+    let c = eqb b (d .component) || t in
+    let none = not-true (eqb b (d .element) || c) (and-right (between 32 126 b) (not (eqb b (d .element) || c)) e) in
+    let other = or-right (eqb b (d .element)) c none in
+    let last = or-right (eqb b (d .component)) t other in
+    (or-left (eqb b (d .element)) c none, or-left (eqb b (d .component)) t other, or-left (eqb b (d .terminator)) r last, or-right (eqb b (d .terminator)) r last)
+
+-- 7. A letter, a digit and a space are valid, where no mark is one.
+pub plain-other : (t b : ℕ) → plain t ≡ true → plain b ≡ false → eqb b t ≡ false
+plain-other t b p q = go (eqb b t) refl
+  where
+    go : (c : Bool) → eqb b t ≡ c → eqb b t ≡ false
+    go false e = e
+    go true e = absurd (true≢false (sym p ∙ ap plain (sym (eqb-true b t e)) ∙ q))
+
+pub digit-common : (b : ℕ) → isDigit b ≡ true → not (plain b) ≡ true
+digit-common b e = rw e (go (isUpper b) (isLower b) (eqb b 32))
+  where
+    go : (u l s : Bool) → not (not (u || l || true || s)) ≡ true
+    go true l s = refl
+    go false true s = refl
+    go false false s = refl
+
+within : (lo hi c : ℕ) → 32 ≤ lo → hi ≤ 126 → between lo hi c ≡ true → between 32 126 c ≡ true
+within lo hi c l h e =
+    let low = leb-true lo c (and-left (leb lo c) (leb c hi) e) in
+    let high = leb-true c hi (and-right (leb lo c) (leb c hi) e) in
+    rw (le-leb 32 c (omega (arith, l, low)), le-leb c 126 (omega (arith, h, high)))
+
+common-range : (c : ℕ) → plain c ≡ false → between 32 126 c ≡ true
+common-range c e = go (isUpper c) refl (isLower c) refl (isDigit c) refl (eqb c 32) refl e
+  where
+    go : (u : Bool) → isUpper c ≡ u → (l : Bool) → isLower c ≡ l → (n : Bool) → isDigit c ≡ n → (s : Bool) → eqb c 32 ≡ s
+        → not (u || l || n || s) ≡ false → between 32 126 c ≡ true
+    go true p l q n r s t e = within 65 90 c (omega arith) (omega arith) p
+    go false p true q n r s t e = within 97 122 c (omega arith) (omega arith) q
+    go false p false q true r s t e = within 48 57 c (omega arith) (omega arith) r
+    go false p false q false r true t e = rw (eqb-true c 32 t)
+    go false p false q false r false t e = absurd (true≢false e)
+
+common-apart : (ms : List ℕ) (c : ℕ) → all plain ms ≡ true → plain c ≡ false → any (eqb c) ms ≡ false
+unfolding any
+common-apart [] c p e = refl
+common-apart (m ∷ ms) c p e = rw (plain-other m c (all-head plain m ms p) e) (common-apart ms c (all-tail plain m ms p) e)
+
+pub common-valid : (d : Delimiters) → all plain (marks d) ≡ true → (c : ℕ) → not (plain c) ≡ true → valid d c ≡ true
+unfolding valid
+common-valid d p c e = let q = not-true (plain c) e in rw (common-range c q, common-apart (marks d) c p q)

@@ -13,7 +13,7 @@ use lib.Seq.{take-all}
 use Rattle.rules.specs.Base.{Bytes, Rule, _⇒_, first, every, null, all, any, between, keep, if_then_else_}
 use Rattle.rules.specs.Cutting.{Segment, field, valid}
 use Rattle.rules.specs.Tables.{Row, Syntax, Entry, Table}
-use Rattle.rules.specs.Elements.{elementCode, present, isPlace, afterPresent, excluded, lacks, shutsOut, showsValue, isEchoed, longestEcho, echoOf, placeCodes, Finding, found, surplusAt, findingsFrom, findings}
+use Rattle.rules.specs.Elements.{elementCode, repeats, present, isPlace, afterPresent, excluded, lacks, shutsOut, showsValue, isWithheld, isEchoed, longestEcho, echoOf, placeCodes, Finding, found, surplusAt, findingsFrom, findings}
 use Rattle.rules.specs.Segments.{Note, Present, Standing, unknown, unlisted, before, again, later, entryAt, standing, moved, findingsBy, missing, echoed, noted, segmentNote, walk, notesOf}
 use Rattle.rules.specs.Sets.{Set, segmentsOf, notesIn, SetReport, setReport}
 use Rattle.rules.specs.Groups.{Group, sets, tableIn, groupReport}
@@ -22,16 +22,16 @@ use Rattle.rules.specs.declared.Relation.{Relation}
 use Rattle.rules.specs.declared.Relation.the-variants.{P, R, E, C, L}
 use Rattle.rules.proofs.Accepting.{report-at}
 use Rattle.rules.proofs.Lengths.{either}
-use Rattle.rules.proofs.Logic.{and-left, and-right, or-none, all-take, any-append, Each, each-none, each-append, each-map, every-given}
+use Rattle.rules.proofs.Logic.{and-left, and-right, or-left, or-right, or-none, all-take, any-append, Each, each-none, each-append, each-map, every-given}
 
--- one of the findings says code 6 of place n: the value there is withheld
-abbrev pub isWithheld : List Finding → ℕ → Bool
-isWithheld fs n = any (λ f. eqb (f .place) n && eqb (f .code) 6) fs
+-- one of the findings says code 6 or 12 of place n: the value there is withheld
+abbrev pub withheldAt : List Finding → ℕ → Bool
+withheldAt fs n = any (λ f. eqb (f .place) n && isWithheld (f .code)) fs
 
 -- what holds of the echo of f, one of the findings fs of a segment s
 pub record Shows (d : Delimiters) (s : Segment) (fs : List Finding) (f : Finding) : Type 0 where
-  -- it is empty exactly under codes 1, 2, 3 and 6, and where its place has code 6
-  pub empty : null (f .echo) ≡ any (eqb (f .code)) (1 ∷ 2 ∷ 3 ∷ 6 ∷ []) || isWithheld fs (f .place)
+  -- it is empty exactly under codes 1, 2, 3, 6 and 12, and where its place has code 6 or 12
+  pub empty : null (f .echo) ≡ any (eqb (f .code)) (1 ∷ 2 ∷ 3 ∷ 6 ∷ 12 ∷ []) || withheldAt fs (f .place)
   -- it has 99 bytes at most, all of them valid
   pub short : length (f .echo) ≤ 99
   pub clean : all (valid d) (f .echo) ≡ true
@@ -67,19 +67,29 @@ pub echo-short : (c own : ℕ) (e : Bytes) → length (echoOf c own e) ≤ 99
 unfolding echoOf
 echo-short c own e = either (λ (bs : Bytes). length bs ≤ 99) (isEchoed c own) (simp length-take (omega (arith, most))) (omega arith)
 
--- 2. A value by its own code: with any but 6 its bytes are valid, and with one of 4 to 9 there are some.
+-- 2. A value by its own code: with any but 6 and 12 its bytes are valid, and with one of 4 to 9 there are some.
 none-clean : (p : ℕ → Bool) → all p [] ≡ true
 unfolding all
 none-clean p = refl
 
-own-clean : (d : Delimiters) (r : Row) (e : Bytes) → eqb (elementCode d r e) 6 ≡ false → all (valid d) e ≡ true
+not-withheld : (k : ℕ) → isWithheld k ≡ false → (eqb k 6 ≡ false) × (eqb k 12 ≡ false)
+unfolding any
+not-withheld k h =
+    let rest = or-right (eqb k 6) (eqb k 12 || false) h in
+    (or-left (eqb k 6) (eqb k 12 || false) h, or-left (eqb k 12) false rest)
+
+own-clean : (d : Delimiters) (r : Row) (e : Bytes) → isWithheld (elementCode d r e) ≡ false → all (valid d) e ≡ true
 unfolding elementCode first
 own-clean d r [] h = none-clean (valid d)
-own-clean d r (b ∷ e) h = go (all (valid d) (b ∷ e)) refl
+own-clean d r (b ∷ e) h =
+    let shown = not-withheld (elementCode d r (b ∷ e)) h in
+    go (repeats d (b ∷ e)) (all (valid d) (b ∷ e)) refl refl (shown .0) (shown .1)
   where
-    go : (c : Bool) → all (valid d) (b ∷ e) ≡ c → all (valid d) (b ∷ e) ≡ true
-    go true q = q
-    go false q = absurd (true≢false (rw q at h))
+    go : (twice clean : Bool) → repeats d (b ∷ e) ≡ twice → all (valid d) (b ∷ e) ≡ clean → eqb (elementCode d r (b ∷ e)) 6 ≡ false
+        → eqb (elementCode d r (b ∷ e)) 12 ≡ false → all (valid d) (b ∷ e) ≡ true
+    go true clean p q six twelve = absurd (true≢false (rw p at twelve))
+    go false true p q six twelve = q
+    go false false p q six twelve = absurd (true≢false (rw (p, q) at six))
 
 own-some : (d : Delimiters) (r : Row) (e : Bytes) → between 4 9 (elementCode d r e) ≡ true → null e ≡ false
 unfolding elementCode first
@@ -99,9 +109,9 @@ step Q m {k} h here more = go (eqb k m) refl
     go true q = rw (eqb-true k m q) here
     go false q = more (omega (arith, h, eqb-false k m q))
 
--- an echo under code c, of a value with the code `own`, is empty exactly under 1, 2, 3 and 6 or where `own` is 6
+-- an echo under code c, of a value with the code `own`, is empty exactly under 1, 2, 3, 6 and 12 or where `own` is 6 or 12
 abbrev Fits : ℕ → Bytes → ℕ → Type 0
-Fits own e c = null (echoOf c own e) ≡ any (eqb c) (1 ∷ 2 ∷ 3 ∷ 6 ∷ []) || eqb own 6
+Fits own e c = null (echoOf c own e) ≡ any (eqb c) (1 ∷ 2 ∷ 3 ∷ 6 ∷ 12 ∷ []) || isWithheld own
 
 own-fits : (e : Bytes) → null e ≡ false → (k : ℕ) → between 4 9 k ≡ true → Fits k e k
 unfolding echoOf any
@@ -153,33 +163,46 @@ module _ (d : Delimiters) (notes : List Syntax) (s : Segment) (r : Row) (n : ℕ
   unfolding placeCodes echoOf any
   codes-fit =
       every-given (Fits own value) _
-      (λ q. refl, (λ q. refl, (λ q. own-fits value (own-some d r value q) own q, (λ q. ten (shut-present notes s n q) (eqb own 6), tt))))
+      (λ q. refl, (λ q. refl, (λ q. own-fits value (own-some d r value q) own q, (λ q. ten (shut-present notes s n q) (isWithheld own), (λ q. refl, tt)))))
     where
       ten : null value ≡ false → (b : Bool) → null (if not b then take longestEcho value else []) ≡ b
       ten filled true = refl
       ten filled false = first-shown value filled
 
-  -- 6 is among them exactly where it is the value's own
-  skip : (b : Bool) (c : ℕ) (rs : List Rule) → eqb c 6 ≡ false → any (λ c. eqb c 6) (every ((b ⇒ c) ∷ rs)) ≡ any (λ c. eqb c 6) (every rs)
+  -- 6 or 12 is among them exactly where it is the value's own
+  skip : (b : Bool) (c : ℕ) (rs : List Rule) → isWithheld c ≡ false → any isWithheld (every ((b ⇒ c) ∷ rs)) ≡ any isWithheld (every rs)
   unfolding every any
   skip true c rs h = rw h
   skip false c rs h = refl
 
-  six-value : any (λ c. eqb c 6) (every ((between 4 9 own ⇒ own) ∷ (shutsOut notes s n ⇒ 10) ∷ [])) ≡ eqb own 6
+  twelve : any isWithheld (every ((shutsOut notes s n ⇒ 10) ∷ (eqb own 12 ⇒ 12) ∷ [])) ≡ eqb own 12
   unfolding every any
-  six-value = go (between 4 9 own) refl (skip (shutsOut notes s n) 10 [] refl)
+  twelve = skip (shutsOut notes s n) 10 ((eqb own 12 ⇒ 12) ∷ []) refl ∙ go (eqb own 12)
     where
-      go : (b : Bool) → between 4 9 own ≡ b → any (λ c. eqb c 6) (every ((shutsOut notes s n ⇒ 10) ∷ [])) ≡ false
-          → any (λ c. eqb c 6) (every ((b ⇒ own) ∷ (shutsOut notes s n ⇒ 10) ∷ [])) ≡ eqb own 6
-      go true q h = ap (λ (b : Bool). eqb own 6 || b) h ∙ or-none (eqb own 6)
-      go false q h = h ∙ sym (not-six own q)
+      go : (b : Bool) → any isWithheld (every ((b ⇒ 12) ∷ [])) ≡ b
+      go true = refl
+      go false = refl
 
-  six-own : any (λ c. eqb c 6) (placeCodes d notes s r n) ≡ eqb own 6
-  unfolding placeCodes
-  six-own = skip (eqb own 1) 1 _ refl ∙ skip (lacks notes s n) 2 _ refl ∙ six-value
+  withheld-value : any isWithheld (every ((between 4 9 own ⇒ own) ∷ (shutsOut notes s n ⇒ 10) ∷ (eqb own 12 ⇒ 12) ∷ [])) ≡ isWithheld own
+  unfolding every any
+  withheld-value = go (between 4 9 own) refl
+    where
+      once : (a b : Bool) → (a || (b || false)) || b ≡ a || (b || false)
+      once true b = refl
+      once false true = refl
+      once false false = refl
+
+      go : (b : Bool) → between 4 9 own ≡ b
+          → any isWithheld (every ((b ⇒ own) ∷ (shutsOut notes s n ⇒ 10) ∷ (eqb own 12 ⇒ 12) ∷ [])) ≡ isWithheld own
+      go true q = ap (λ (b : Bool). isWithheld own || b) twelve ∙ once (eqb own 6) (eqb own 12)
+      go false q = twelve ∙ rw (not-six own q) (sym (or-none (eqb own 12)))
+
+  withheld-own : any isWithheld (placeCodes d notes s r n) ≡ isWithheld own
+  unfolding placeCodes any
+  withheld-own = skip (eqb own 1) 1 _ refl ∙ skip (lacks notes s n) 2 _ refl ∙ withheld-value
 
   -- so of its findings
-  withheld-here : (cs : List ℕ) (m : ℕ) → isWithheld (map (found d s r n) cs) m ≡ eqb n m && any (λ c. eqb c 6) cs
+  withheld-here : (cs : List ℕ) (m : ℕ) → withheldAt (map (found d s r n) cs) m ≡ eqb n m && any isWithheld cs
   unfolding any
   withheld-here [] m = go (eqb n m)
     where
@@ -188,15 +211,15 @@ module _ (d : Delimiters) (notes : List Syntax) (s : Segment) (r : Row) (n : ℕ
       go false = refl
   withheld-here (c ∷ cs) m = rw (withheld-here cs m) (go (eqb n m))
     where
-      go : (b : Bool) → (b && eqb c 6) || (b && any (λ c. eqb c 6) cs) ≡ b && (eqb c 6 || any (λ c. eqb c 6) cs)
+      go : (b : Bool) → (b && isWithheld c) || (b && any isWithheld cs) ≡ b && (isWithheld c || any isWithheld cs)
       go true = refl
       go false = refl
 
   -- what holds of one of them
-  found-shows : (fs : List Finding) → isWithheld fs n ≡ eqb own 6 → (c : ℕ) → Fits own value c → Shows d s fs (found d s r n c)
+  found-shows : (fs : List Finding) → withheldAt fs n ≡ isWithheld own → (c : ℕ) → Fits own value c → Shows d s fs (found d s r n c)
   unfolding echoOf
   found-shows fs withheld c fits = record {
-    empty = fits ∙ ap (λ (b : Bool). any (eqb c) (1 ∷ 2 ∷ 3 ∷ 6 ∷ []) || b) (sym withheld);
+    empty = fits ∙ ap (λ (b : Bool). any (eqb c) (1 ∷ 2 ∷ 3 ∷ 6 ∷ 12 ∷ []) || b) (sym withheld);
     short = echo-short c own value;
     clean = clean (isEchoed c own) refl;
     begins = begins (isEchoed c own);
@@ -205,7 +228,7 @@ module _ (d : Delimiters) (notes : List Syntax) (s : Segment) (r : Row) (n : ℕ
     where
       clean : (b : Bool) → isEchoed c own ≡ b → all (valid d) (if b then take longestEcho value else []) ≡ true
       clean true q =
-          all-take (valid d) longestEcho value (own-clean d r value (not-true (eqb own 6) (and-right (showsValue c) (not (eqb own 6)) q)))
+          all-take (valid d) longestEcho value (own-clean d r value (not-true (isWithheld own) (and-right (showsValue c) (not (isWithheld own)) q)))
       clean false q = none-clean (valid d)
 
       begins : (b : Bool) → (if b then take longestEcho value else []) ≡ take (length (if b then take longestEcho value else [])) value
@@ -220,11 +243,11 @@ module _ (d : Delimiters) (notes : List Syntax) (s : Segment) (r : Row) (n : ℕ
 -- 4. The findings of a segment.
 module _ (d : Delimiters) (notes : List Syntax) (s : Segment) where
   -- those from place k on say nothing of one before
-  withheld-before : (n k : ℕ) (rs : List Row) → n < k → isWithheld (findingsFrom d notes s k rs) n ≡ false
+  withheld-before : (n k : ℕ) (rs : List Row) → n < k → withheldAt (findingsFrom d notes s k rs) n ≡ false
   unfolding findingsFrom any
   withheld-before n k [] h = go (ltb k (length s))
     where
-      go : (b : Bool) → isWithheld (if b then surplusAt k ∷ [] else []) n ≡ false
+      go : (b : Bool) → withheldAt (if b then surplusAt k ∷ [] else []) n ≡ false
       go true = rw (ne-eqb k n (λ (e : k ≡ n). omega (arith, h, e)))
       go false = refl
   withheld-before n k (r ∷ rs) h =
@@ -233,7 +256,7 @@ module _ (d : Delimiters) (notes : List Syntax) (s : Segment) where
       (withheld-before n (k + 1) rs (omega (arith, h)))
 
   -- of a segment whose findings are fs, those from place n on
-  from-shows : (fs : List Finding) (n : ℕ) (rs : List Row) → ((m : ℕ) → n ≤ m → isWithheld fs m ≡ isWithheld (findingsFrom d notes s n rs) m)
+  from-shows : (fs : List Finding) (n : ℕ) (rs : List Row) → ((m : ℕ) → n ≤ m → withheldAt fs m ≡ withheldAt (findingsFrom d notes s n rs) m)
       → Each (Shows d s fs) (findingsFrom d notes s n rs)
   unfolding findingsFrom all any Each
   from-shows fs n [] h = go (ltb n (length s))
@@ -255,22 +278,22 @@ module _ (d : Delimiters) (notes : List Syntax) (s : Segment) where
       later : List Finding
       later = findingsFrom d notes s (n + 1) rs
 
-      split : (m : ℕ) → isWithheld (here ++ later) m ≡ isWithheld here m || isWithheld later m
+      split : (m : ℕ) → withheldAt (here ++ later) m ≡ withheldAt here m || withheldAt later m
       split m = any-append _ here later
 
-      withheld : isWithheld fs n ≡ eqb (elementCode d r (field s n)) 6
+      withheld : withheldAt fs n ≡ isWithheld (elementCode d r (field s n))
       withheld =
           h n (le-refl n)
           ∙ split n
-          ∙ rw (withheld-before n (n + 1) rs (omega arith), withheld-here d notes s r n codes n, eq-eqb n n refl, six-own d notes s r n)
-          (or-none (eqb (elementCode d r (field s n)) 6))
+          ∙ rw (withheld-before n (n + 1) rs (omega arith), withheld-here d notes s r n codes n, eq-eqb n n refl, withheld-own d notes s r n)
+          (or-none (isWithheld (elementCode d r (field s n))))
 
       shown : (cs : List ℕ) → Each (Fits (elementCode d r (field s n)) (field s n)) cs → Each (λ c. Shows d s fs (found d s r n c)) cs
       shown [] f = tt
       shown (c ∷ cs) f = (found-shows d notes s r n fs withheld c (f .0), shown cs (f .1))
 
 -- Each finding of a segment shows what its code and the codes of its place let it show of the element at its place, and nothing else. A
--- definition that cuts at 98 or 100, echoes under code 6, loses a minus or shows the element beside it is shut out.
+-- definition that cuts at 98 or 100, echoes a value with code 6 or 12, loses a minus or shows the element beside it is shut out.
 pub echo-law : (d : Delimiters) (e : Entry) (s : Segment) → Each (Shows d s (findings d e s)) (findings d e s)
 unfolding findings
 echo-law d e s = from-shows d (e .notes) s (findings d e s) 1 (e .rows) (λ m h. refl)

@@ -6,20 +6,21 @@ use mathlib.Core.Option.{none, some}
 use Prim.Native.Nat.{ℕ, suc, _+_, _≤_, _<_}
 use native.Mathlib.Omega.{arith}
 use native.Mathlib.Numerals.{add-one}
-use borrow.Author.Tests.{not-true, not-false, eqb-true, leb-true, ltb-true}
+use borrow.Author.Tests.{not-true, not-false, eqb-true, eqb-false, ne-eqb, leb-true, ltb-true}
 use lib.Dec.{T, eqb, ltb, leb, lit<, lit≤}
 use lib.ListN.{length, take, drop, getD, take-append-drop, length-take}
 use lib.Seq.{slice, slice-empty, split-at, take-suc, getD-take, take-take, drop-append-le}
-use Rattle.rules.specs.Base.{Bytes, Rule, ascii, same, member, between, all, any, front, last, first}
-use Rattle.rules.specs.Cutting.{Segment, field, isNamed, delimiters, marks, separators, valid, fieldsAt, isa, segments, split}
+use Rattle.rules.specs.Base.{Bytes, Rule, ascii, same, member, between, all, any, front, last, first, if_then_else_}
+use Rattle.rules.specs.Cutting.{Segment, field, isNamed, segments, split, separators, fieldsAt, isa, knowsRepetition, repetitionIn, delimiters, repetitionMark, marks, valid}
 use Rattle.rules.specs.Numbers.{digits}
 use Rattle.rules.specs.Groups.{Group, groupsOf, cutAfterGE, isGE, sets}
-use Rattle.rules.specs.Refusals.{goodCall, callRules, hasISA, isWholeGroup, plain, distinct, goodMarks, goodISA, headRules, endRules, enveloped, mostGroups, envelopeRules, hasTwo, closes, countsGroups, trailerRules, headerRules, answerRules, setRules, groupRules, groupsRules, refusalRules, refusal}
+use Rattle.rules.specs.Refusals.{goodCall, callRules, hasISA, isWholeGroup, plain, distinct, goodMarks, textFields, goodISA, headRules, endRules, enveloped, mostGroups, envelopeRules, hasTwo, closes, countsGroups, trailerRules, headerRules, answerRules, setRules, groupRules, groupsRules, refusalRules, refusal}
 use Rattle.rules.specs.Damage.{flat, groupsIn, flatGroups, free}
 use Rattle.rules.specs.declared.Call.{Call}
 use Rattle.rules.specs.declared.Delimiters.{Delimiters}
-use Rattle.rules.proofs.Logic.{and-left, and-right, or-left, or-right, all-head, all-tail, all-cons, all-append, all-weaken, same→eq, front-last, front-snoc, last-snoc, numbered, first-append-none, Silent, silent, Each}
-use Rattle.rules.proofs.Cuts.{pieces-step}
+use Rattle.rules.specs.declared.Repetition.the-variants.{Nothing, By}
+use Rattle.rules.proofs.Logic.{and-left, and-right, or-left, or-right, all-head, all-tail, all-cons, all-append, all-left, all-right, all-weaken, same→eq, front-last, front-snoc, last-snoc, numbered, first-append-none, Silent, silent, Each}
+use Rattle.rules.proofs.Cuts.{pieces-step, valid-apart}
 use Rattle.rules.proofs.Facts.{groups-numbers}
 use Rattle.rules.proofs.GroupLaws.{isOpen, groupFrom, cut-closed, cut-open, group-closed, group-open, Chain, no-group, open-group, closed-group, cut-groups}
 use Rattle.rules.proofs.SetLaws.{isOuter, Sets, sets-cut, flat-sets}
@@ -34,10 +35,6 @@ unfolding all separators
 separators-within = refl
 
 module _ (i : Bytes) where
-  pub delimiters-head : delimiters (take 106 i) ≡ delimiters i
-  unfolding delimiters
-  delimiters-head = rw (getD-take 106 i 3 0 (lit< tt), getD-take 106 i 104 0 (lit< tt), getD-take 106 i 105 0 (lit< tt))
-
   separated-head : (b : ℕ) (places : List ℕ) → all (λ a. ltb a 106) places ≡ true
       → all (λ a. eqb (getD (take 106 i) a 0) b) places ≡ all (λ a. eqb (getD i a 0) b) places
   unfolding all
@@ -66,13 +63,20 @@ module _ (i : Bytes) where
   unfolding isa
   isa-head = fields-head 0 separators separators-within
 
+  pub delimiters-head : delimiters (take 106 i) ≡ delimiters i
+  unfolding delimiters repetitionIn
+  delimiters-head =
+      rw (
+        getD-take 106 i 3 0 (lit< tt),
+        getD-take 106 i 104 0 (lit< tt),
+        getD-take 106 i 105 0 (lit< tt),
+        getD-take 106 i 82 0 (lit< tt),
+        isa-head,
+      )
+
 -- 2. The 105 bytes of ISA before its terminator hold no other terminator.
 valid-free : (d : Delimiters) (b : ℕ) → valid d b ≡ true → not (eqb b (d .terminator)) ≡ true
-unfolding valid marks any
-valid-free d b e =
-    let other = eqb b (d .component) || (eqb b (d .terminator) || false) in
-    let n = not-true (eqb b (d .element) || other) (and-right (between 32 126 b) (not (eqb b (d .element) || other)) e) in
-    rw (or-left (eqb b (d .terminator)) false (or-right (eqb b (d .component)) (eqb b (d .terminator) || false) (or-right (eqb b (d .element)) other n)))
+valid-free d b e = rw (valid-apart d b e .2)
 
 -- places that ascend from start
 abbrev ascending : ℕ → List ℕ → Bool
@@ -101,7 +105,7 @@ slice-split i start e m h k l =
     ∙ rw (add-one, take-take e m i e′, getD-take m i e 0 k) (drop-append-le start (take e i) (getD i e 0 ∷ drop (suc e) (take m i)) s)
 
 -- what holds of the bytes of the fields and of the bytes at the places holds of all bytes up to the end
-covered : (p : ℕ → Bool) (i : Bytes) (start : ℕ) (es : List ℕ) → ascending start es ≡ true → end start es ≤ length i
+pub covered : (p : ℕ → Bool) (i : Bytes) (start : ℕ) (es : List ℕ) → ascending start es ≡ true → end start es ≤ length i
     → all (all p) (fieldsAt start es i) ≡ true → all (λ e. p (getD i e 0)) es ≡ true → all p (slice start (end start es) i) ≡ true
 unfolding fieldsAt all
 covered p i start [] t l e f = rw (slice-empty start i)
@@ -117,27 +121,72 @@ covered p i start (x ∷ xs) t l e f =
     (covered p i (x + 1) xs r l (and-right (all p (slice start x i)) (all (all p) (fieldsAt (x + 1) xs i)) e)
     (and-right (p (getD i x 0)) (all (λ e. p (getD i e 0)) xs) f))))
 
+-- ISA11 is the byte at its place
+pub isa11-byte : (i : Bytes) → 106 ≤ length i → field (isa i) 11 ≡ getD i 82 0 ∷ []
+unfolding isa separators fieldsAt
+isa11-byte i l = let l′ : 83 ≤ length i = omega (arith, l) in slice-split i 82 82 83 (lit≤ tt) (lit< tt) l′ ∙ rw (slice-empty 82 i, slice-empty 83 i)
+
+pub isa-long : (i : Bytes) → 11 < length (isa i)
+unfolding isa separators fieldsAt
+isa-long i = lit< tt
+
+free-other : (t b : ℕ) → any (eqb t) (b ∷ []) ≡ false → free t (b ∷ []) ≡ true
+unfolding all any
+free-other t b n = rw (ne-eqb b t (λ e. eqb-false t b (or-left (eqb t b) false n) (sym e)))
+
+-- a byte that is neither in the fields that are text nor the repetition separator is in no field
+texts-free : (t : ℕ) (i : Bytes) → 106 ≤ length i → (c : Bool)
+    → any (eqb t) (repetitionMark (if c then By (getD i 82 0) else Nothing)) ≡ false
+    → all (free t) (textFields (if c then By (getD i 82 0) else Nothing) (isa i)) ≡ true → all (free t) (isa i) ≡ true
+texts-free t i l false n e = e
+texts-free t i l true n e =
+    let s = isa i in
+    let before = take 11 s in
+    let after = drop 12 s in
+    ap (all (free t)) (split-at s 11 [] (isa-long i))
+    ∙ all-append (free t) before (field s 11 ∷ after) (all-left (free t) before after e)
+    (all-cons (free t) (field s 11) after (rw (isa11-byte i l) (free-other t (getD i 82 0) n)) (all-right (free t) before after e))
+
 -- what the refusals over the bytes leave
 pub record Header (i : Bytes) : Type 0 where
   pub long : 106 ≤ length i
   pub short : length i ≤ 65536
   pub separated : all (λ at. eqb (getD i at 0) (getD i 3 0)) separators ≡ true
-  pub fields : all (all (valid (delimiters i))) (isa i) ≡ true
+  pub fields : all (free (delimiters i .terminator)) (isa i) ≡ true
   pub element≢ : eqb (delimiters i .element) (delimiters i .terminator) ≡ false
   pub component≢ : eqb (delimiters i .component) (delimiters i .terminator) ≡ false
   pub ends : last 0 i ≡ delimiters i .terminator
 
--- three marks that differ
-marks-differ : (d : Delimiters) → distinct (marks d) ≡ true
-    → (eqb (d .element) (d .terminator) ≡ false) × (eqb (d .component) (d .terminator) ≡ false)
+-- marks that differ: the terminator is none of the others
+pub marks-differ : (d : Delimiters) → distinct (marks d) ≡ true
+    → (eqb (d .element) (d .terminator) ≡ false) × (eqb (d .component) (d .terminator) ≡ false) × (any (eqb (d .terminator)) (repetitionMark (d .repetition)) ≡ false)
 unfolding distinct marks any
 marks-differ d e =
+    let rs = repetitionMark (d .repetition) in
     let ec = eqb (d .element) (d .component) in
     let et = eqb (d .element) (d .terminator) in
+    let er = any (eqb (d .element)) rs in
     let ct = eqb (d .component) (d .terminator) in
-    let first = not-true (ec || (et || false)) (and-left (not (ec || (et || false))) (not (ct || false) && (not false && true)) e) in
-    let second = and-left (not (ct || false)) (not false && true) (and-right (not (ec || (et || false))) (not (ct || false) && (not false && true)) e) in
-    (or-left et false (or-right ec (et || false) first), or-left ct false (not-true (ct || false) second))
+    let cr = any (eqb (d .component)) rs in
+    let tr = any (eqb (d .terminator)) rs in
+    let of-e = not (ec || (et || er)) in
+    let of-c = not (ct || cr) in
+    let of-t = not tr && distinct rs in
+    let first = not-true (ec || (et || er)) (and-left of-e (of-c && of-t) e) in
+    let later = and-right of-e (of-c && of-t) e in
+    let second = not-true (ct || cr) (and-left of-c of-t later) in
+    let third = not-true tr (and-left (not tr) (distinct rs) (and-right of-c of-t later)) in
+    (or-left et er (or-right ec (et || er) first), or-left ct cr second, third)
+
+-- so no field of ISA holds the terminator
+fields-free : (i : Bytes) → 106 ≤ length i → any (eqb (delimiters i .terminator)) (repetitionMark (repetitionIn i)) ≡ false
+    → all (all (valid (delimiters i))) (textFields (repetitionIn i) (isa i)) ≡ true → all (free (delimiters i .terminator)) (isa i) ≡ true
+unfolding repetitionIn
+fields-free i l n v =
+    let d = delimiters i in
+    let t = d .terminator in
+    texts-free t i l (knowsRepetition (field (isa i) 12) && not (eqb (getD i 82 0) 85)) n
+    (all-weaken (all (valid d)) (free t) (all-weaken (valid d) (λ b. not (eqb b t)) (valid-free d)) (textFields (repetitionIn i) (isa i)) v)
 
 -- the rules 1 to 8
 abbrev pub toEight : Bytes → Call → List Rule
@@ -160,7 +209,7 @@ pub record Passed (i : Bytes) (call : Call) : Type 0 where
   pub counted : countsGroups (length (groupsIn i)) (last [] (segments (delimiters i) i)) ≡ true
 
 pub passed : (i : Bytes) (call : Call) → first (toEight i call) ≡ 0 → Passed i call
-unfolding callRules headRules endRules envelopeRules trailerRules hasISA goodMarks goodISA
+unfolding callRules headRules endRules envelopeRules trailerRules hasISA goodMarks goodISA delimiters
 passed i call e =
     let d = delimiters i in
     let n = length i in
@@ -170,16 +219,17 @@ passed i call e =
     let marked = not-false (goodMarks (marks d)) (r .1 .1 .1 .0) in
     let headed = not-false (goodISA d (isa i)) (r .1 .1 .1 .1 .0) in
     let differ = marks-differ d (and-left (distinct (marks d)) (all plain (marks d)) marked) in
-    let v = all (all (valid d)) (isa i) in
+    let v = all (all (valid d)) (textFields (d .repetition) (isa i)) in
+    let long = leb-true 106 n (and-left (leb 106 n) (leb n 65536) sized) in
     let nine = digits 9 9 (field (isa i) 13) in
     let pti = member (field (isa i) 15) (ascii "P" ∷ ascii "T" ∷ ascii "I" ∷ []) in
     record {
       numbers = not-false (goodCall call) (r .0);
       header = record {
-        long = leb-true 106 n (and-left (leb 106 n) (leb n 65536) sized);
+        long = long;
         short = leb-true n 65536 (and-right (leb 106 n) (leb n 65536) sized);
         separated = and-right (same (take 3 i) (ascii "ISA")) (all (λ at. eqb (getD i at 0) (getD i 3 0)) separators) opened;
-        fields = and-left v nine (and-left (v && nine) pti headed);
+        fields = fields-free i long (differ .2) (and-left v nine (and-left (v && nine) pti headed));
         element≢ = differ .0;
         component≢ = differ .1;
         ends = eqb-true (last 0 i) (d .terminator) (not-false (eqb (last 0 i) (d .terminator)) (r .1 .1 .1 .1 .1 .0));
@@ -240,7 +290,7 @@ module _ (i : Bytes) (h : Header i) where
       let l′ : 104 ≤ length i = omega (arith, h .long) in
       rw (take-suc i 104 0 l)
       (all-append p (take 104 i) (getD i 104 0 ∷ [])
-      (isa-covered p i l′ (all-weaken (all (valid d)) (all p) (all-weaken (valid d) p (valid-free d)) (isa i) (h .fields))
+      (isa-covered p i l′ (h .fields)
       (terminator-free i (getD i 3 0) (d .terminator) separators (h .element≢) (h .separated)))
       (rw (h .component≢)))
 

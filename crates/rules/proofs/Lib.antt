@@ -15,8 +15,13 @@ pub mod Tempting
 pub mod Accepting
 pub mod Unused
 pub mod Echo
+pub mod Repeating
+pub mod Caret
 pub mod Placed
 pub mod InterchangeAcknowledgment
 pub mod Envelopes
 pub mod OneGroup
 pub mod Alone
+pub mod Unrepeated
+pub mod Separator
+pub mod Sent

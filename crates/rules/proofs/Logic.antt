@@ -1,6 +1,6 @@
 -- Laws of tests, lists and rules that hold whatever they are about.
 use mathlib.Core.Path.{_≡_, refl, sym, _∙_, ap, subst⁻¹}
-use mathlib.Core.Bool.{Bool, true, false, _&&_, _||_, not, false≢true, true≢false}
+use mathlib.Core.Bool.{Bool, true, false, _&&_, _||_, not, and-assoc, false≢true, true≢false}
 use mathlib.Core.Logic.{_⊎_, inl, inr}
 use mathlib.Core.List.{List, [], _∷_, _++_, map}
 use Prim.Native.Nat.{ℕ, zero, suc, _≤_, _<_}
@@ -8,7 +8,7 @@ use native.Mathlib.Nat.{not-suc-le-zero, le-of-suc-le-suc}
 use native.Mathlib.Omega.{arith}
 use borrow.Author.Tests.{eqb-true, eqb-false, leb-true}
 use lib.Dec.{T, T-not, leb, eqb}
-use lib.ListN.{length, getD, take}
+use lib.ListN.{length, getD, take, drop}
 use Rattle.rules.specs.Base.{Bytes, same, all, any, front, last, between, Rule, _⇒_, first, every}
 
 pub and-left : (a b : Bool) → a && b ≡ true → a ≡ true
@@ -56,6 +56,11 @@ module _ {A : Type 0} (p : A → Bool) where
   all-append [] ys e f = f
   all-append (x ∷ xs) ys e f = all-cons x (xs ++ ys) (all-head x xs e) (all-append xs ys (all-tail x xs e) f)
 
+  pub all-both : (xs ys : List A) → all p (xs ++ ys) ≡ all p xs && all p ys
+  unfolding all
+  all-both [] ys = refl
+  all-both (x ∷ xs) ys = rw (all-both xs ys) (sym (and-assoc (p x) (all p xs) (all p ys)))
+
   pub all-left : (xs ys : List A) → all p (xs ++ ys) ≡ true → all p xs ≡ true
   unfolding all
   all-left [] ys e = refl
@@ -71,6 +76,11 @@ module _ {A : Type 0} (p : A → Bool) where
   all-take (suc k) [] e = refl
   all-take (suc k) (x ∷ xs) e = all-cons x (take k xs) (all-head x xs e) (all-take k xs (all-tail x xs e))
 
+  pub all-drop : (k : ℕ) (xs : List A) → all p xs ≡ true → all p (drop k xs) ≡ true
+  all-drop zero xs e = e
+  all-drop (suc k) [] e = e
+  all-drop (suc k) (x ∷ xs) e = all-drop k xs (all-tail x xs e)
+
   pub any-append : (xs ys : List A) → any p (xs ++ ys) ≡ any p xs || any p ys
   unfolding any
   any-append [] ys = refl
@@ -85,6 +95,12 @@ module _ {A : Type 0} (p : A → Bool) where
   unfolding all
   all-weaken q h [] e = refl
   all-weaken q h (x ∷ xs) e = rw (h x (all-head x xs e)) (all-weaken q h xs (all-tail x xs e))
+
+  -- what passes two tests passes a third that follows from both
+  pub all-join : (q r : A → Bool) → ((x : A) → p x ≡ true → q x ≡ true → r x ≡ true) → (xs : List A) → all p xs ≡ true → all q xs ≡ true → all r xs ≡ true
+  unfolding all
+  all-join q r h [] e f = refl
+  all-join q r h (x ∷ xs) e f = rw (h x (all-head x xs e) (and-left (q x) (all q xs) f)) (all-join q r h xs (all-tail x xs e) (and-right (q x) (all q xs) f))
 
 -- what all pass, the one at k passes
 pub all-at : {A : Type 0} (p : A → Bool) (xs : List A) (d : A) (k : ℕ) → all p xs ≡ true → k < length xs → p (getD xs k d) ≡ true
@@ -208,6 +224,18 @@ pub each-map : {A B : Type 0} (P : B → Type 0) (f : A → B) (xs : List A) →
 unfolding Each
 each-map P f [] h = tt
 each-map P f (x ∷ xs) h = (h .0, each-map P f xs (h .1))
+
+-- as one test
+pub each-all : {A : Type 0} (p : A → Bool) (xs : List A) → Each (λ x. p x ≡ true) xs → all p xs ≡ true
+unfolding Each all
+each-all p [] h = refl
+each-all p (x ∷ xs) h = all-cons p x xs (h .0) (each-all p xs (h .1))
+
+-- what follows from what holds of each
+pub each-weaken : {A : Type 0} (P Q : A → Type 0) → ((x : A) → P x → Q x) → (xs : List A) → Each P xs → Each Q xs
+unfolding Each
+each-weaken P Q f [] h = tt
+each-weaken P Q f (x ∷ xs) h = (f x (h .0), each-weaken P Q f xs (h .1))
 
 -- it holds of the one at k
 pub each-at : {A : Type 0} (P : A → Type 0) (xs : List A) (k : ℕ) (w : A) → Each P xs → k < length xs → P (getD xs k w)

@@ -1,5 +1,6 @@
 -- Change request 6 lets an interchange have several groups. The law before it, which knew one group alone, is written down again here. Only
--- the answer to a batch, which passes check 7 with two groups or more, differs from it, and a batch was refused with 7.
+-- the answer to a batch, which passes check 7 with two groups or more, differs from it, and a batch was refused with 7. What later requests
+-- changed is in it too.
 use mathlib.Core.Path.{_≡_, refl, sym, _∙_, ap}
 use mathlib.Core.Bool.{Bool, true, false, _&&_, not, false≢true, true≢false}
 use mathlib.Core.Logic.{_⊎_, inl, inr}

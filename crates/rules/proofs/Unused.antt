@@ -1,12 +1,12 @@
 -- Codes 9 and 10 of AK4 are never given by document 01's tables: no row of theirs is a time, and no note of theirs shuts an element out. So no
 -- AK4 of any response says 9 or 10.
 use mathlib.Core.Path.{_≡_, refl, sym, _∙_}
-use mathlib.Core.Bool.{Bool, true, false, _&&_, not, false≢true}
+use mathlib.Core.Bool.{Bool, true, false, _&&_, _||_, not, false≢true}
 use mathlib.Core.List.{List, [], _∷_, map}
 use mathlib.Core.Option.{Option, none, some}
 use Prim.Native.Nat.{ℕ, zero, suc, _+_}
 use native.Mathlib.Omega.{arith}
-use borrow.Author.Tests.{not-true, ne-eqb, leb-true, lt-ltb}
+use borrow.Author.Tests.{not-true, eqb-true, ne-eqb, leb-true, lt-ltb}
 use lib.Dec.{leb, ltb, eqb}
 use lib.ListN.{length, getD}
 use Rattle.rules.specs.Base.{Bytes, Rule, _⇒_, first, every, null, all, any, ascii, same, member, keep}
@@ -25,9 +25,9 @@ use Rattle.rules.specs.declared.Relation.the-variants.{P, R, E, C, L}
 use Rattle.rules.proofs.Logic.{and-left, and-right, all-head, all-tail, all-append, Given}
 use Rattle.rules.proofs.Lengths.{either}
 
--- a code of an element other than 9 and 10: one of 1 to 8, or 0 for none
+-- a code of an element other than 9 and 10: one of 1 to 8, 12, or 0 for none
 abbrev pub isUsed : ℕ → Bool
-isUsed c = leb c 8
+isUsed c = leb c 8 || eqb c 12
 
 -- 1. Rules: what holds of the number of every rule that may apply holds of those that are given.
 first-given : (p : ℕ → Bool) → p 0 ≡ true → (rs : List Rule) → Given (λ n. p n ≡ true) rs → p (first rs) ≡ true
@@ -59,7 +59,7 @@ own-used d r e h =
     either (λ (c : ℕ). isUsed c ≡ true) (null e)
     (first-given isUsed refl _ (λ b. refl, tt))
     (first-given isUsed refl _
-    (λ b. refl, (λ b. refl, (λ b. refl, (λ b. refl, (λ b. refl, (λ b. absurd (false≢true (rw (not-true (isTM (r .kind)) h) at b)), tt)))))))
+    (λ b. refl, (λ b. refl, (λ b. refl, (λ b. refl, (λ b. refl, (λ b. refl, (λ b. absurd (false≢true (rw (not-true (isTM (r .kind)) h) at b)), tt))))))))
 
 relation-admits : (k : Relation) → not (isE k) ≡ true → (s : Segment) (ps : List ℕ) (n : ℕ) → excluded s k ps n ≡ false
 relation-admits P h s ps n = refl
@@ -86,7 +86,7 @@ module _ (d : Delimiters) (notes : List Syntax) (s : Segment) (h : all (λ c. no
   unfolding placeCodes
   place-used r n k =
       all-given isUsed _
-      (λ b. refl, (λ b. refl, (λ b. own-used d r (field s n) k, (λ b. absurd (false≢true (sym (notes-admit notes h s n) ∙ b)), tt))))
+      (λ b. refl, (λ b. refl, (λ b. own-used d r (field s n) k, (λ b. absurd (false≢true (sym (notes-admit notes h s n) ∙ b)), (λ b. refl, tt)))))
 
   findings-used : (n : ℕ) (rows : List Row) → all (λ r. not (isTM (r .kind))) rows ≡ true
       → all (λ f. isUsed (f .code)) (findingsFrom d notes s n rows) ≡ true
@@ -192,9 +192,13 @@ and-none false = refl
 
 code-spared : (c : ℕ) → isUsed c ≡ true → member (decimal c) (ascii "9" ∷ ascii "10" ∷ []) ≡ false
 unfolding decimal digitsOf any same
-code-spared c h =
-    let few = leb-true c 8 h in
-    rw (lt-ltb c 10 (omega (arith, few)), ne-eqb (48 + c) 57 (λ e. omega (arith, few, e)), and-none (eqb (48 + c) 49))
+code-spared c h = go (leb c 8) refl h
+  where
+    go : (b : Bool) → leb c 8 ≡ b → b || eqb c 12 ≡ true → member (decimal c) (ascii "9" ∷ ascii "10" ∷ []) ≡ false
+    go true e h =
+        let few = leb-true c 8 e in
+        rw (lt-ltb c 10 (omega (arith, few)), ne-eqb (48 + c) 57 (λ e. omega (arith, few, e)), and-none (eqb (48 + c) 49))
+    go false e h = rw (eqb-true c 12 h)
 
 ak4s-spared : (fs : List Finding) → all (λ f. isUsed (f .code)) fs ≡ true → all isSpared (map ak4 fs) ≡ true
 unfolding all ak4 same

@@ -5,7 +5,7 @@ use mathlib.Core.List.{List, [], _∷_, _++_, map}
 use lib.Dec.{ltb, eqb}
 use lib.ListN.{length, take}
 use Rattle.rules.specs.Base.{Bytes, _⇒_, first, every, null, all, any, between, isDigit, member, if_then_else_}
-use Rattle.rules.specs.Cutting.{Segment, field, valid}
+use Rattle.rules.specs.Cutting.{Segment, field, valid, separatesRepetitions}
 use Rattle.rules.specs.Numbers.{isDate, isTime}
 use Rattle.rules.specs.Tables.{Row, Syntax, Entry}
 use Rattle.rules.specs.declared.Delimiters.{Delimiters}
@@ -45,6 +45,10 @@ unsigned (b ∷ bs) = if eqb b 45 then bs else b ∷ bs
 abbrev pub valueLength : Kind → Bytes → ℕ
 valueLength k e = length (if isN0 k then unsigned e else e)
 
+-- the repetition separator stands in the value
+abbrev pub repeats : Delimiters → Bytes → Bool
+repeats d = any (separatesRepetitions d)
+
 -- all bytes are valid, and those of a number are digits after an optional minus
 abbrev pub spelled : Delimiters → Kind → Bytes → Bool
 spelled d k e = all (valid d) e && (not (isN0 k) || all isDigit (unsigned e))
@@ -54,6 +58,7 @@ unfoldable pub elementCode : Delimiters → Row → Bytes → ℕ
 elementCode d r e =
     if null e then first ((r .mandatory ⇒ 1) ∷ [])
     else first (
+    (repeats d e ⇒ 12) ∷
     (not (spelled d (r .kind) e) ⇒ 6) ∷
     (ltb (valueLength (r .kind) e) (r .shortest) ⇒ 4) ∷
     (ltb (r .longest) (valueLength (r .kind) e) ⇒ 5) ∷
@@ -106,9 +111,13 @@ shutsOut notes s n = any (λ c. excluded s (c .relation) (c .places) n) notes
 abbrev pub showsValue : ℕ → Bool
 showsValue c = any (eqb c) (4 ∷ 5 ∷ 7 ∷ 8 ∷ 9 ∷ 10 ∷ [])
 
--- a value with this code of its own is echoed under code c; one with code 6 is echoed under none
+-- a value with this code of its own is echoed under no code
+abbrev pub isWithheld : ℕ → Bool
+isWithheld own = any (eqb own) (6 ∷ 12 ∷ [])
+
+-- a value with this code of its own is echoed under code c
 abbrev pub isEchoed : ℕ → ℕ → Bool
-isEchoed c own = showsValue c && not (eqb own 6)
+isEchoed c own = showsValue c && not (isWithheld own)
 
 -- the most bytes that an echo has
 unfoldable pub longestEcho : ℕ
@@ -135,6 +144,7 @@ placeCodes d notes s r n =
     (lacks notes s n ⇒ 2) ∷
     (between 4 9 own ⇒ own) ∷
     (shutsOut notes s n ⇒ 10) ∷
+    (eqb own 12 ⇒ 12) ∷
     [])
 
 -- the finding of code c at place n

@@ -3,7 +3,7 @@ use Prim.Native.Nat.{ℕ, _/_, _%_}
 use mathlib.Core.Bool.{Bool, true, _&&_, _||_, not}
 use mathlib.Core.List.{List, [], _∷_, _++_}
 use lib.Dec.{leb, eqb}
-use lib.ListN.{length, take, getD}
+use lib.ListN.{length, take, drop, getD}
 use Rattle.rules.specs.Base.{Bytes, Rule, _⇒_, first, null, all, any, between, isDigit, isUpper, isLower, isUpperOrDigit, ascii, same, member, last}
 use Rattle.rules.specs.Cutting.{Segment, field, isNamed, delimiters, marks, separators, valid, text, isa, segments}
 use Rattle.rules.specs.Numbers.{digits, declares, isDay, isDate, isTime}
@@ -11,6 +11,8 @@ use Rattle.rules.specs.Sets.{setsOf, outside}
 use Rattle.rules.specs.Groups.{Group, groupsOf}
 use Rattle.rules.specs.declared.Call.{Call}
 use Rattle.rules.specs.declared.Delimiters.{Delimiters}
+use Rattle.rules.specs.declared.Repetition.{Repetition}
+use Rattle.rules.specs.declared.Repetition.the-variants.{Nothing, By}
 
 -- 1: the caller's numbers
 unfoldable pub goodCall : Call → Bool
@@ -37,10 +39,15 @@ distinct (b ∷ bs) = not (any (eqb b) bs) && distinct bs
 unfoldable pub goodMarks : List ℕ → Bool
 goodMarks bs = distinct bs && all plain bs
 
--- 5: the fields of ISA
+-- 5: the fields of ISA that are text: all of them, but ISA11 where it is the repetition separator
+abbrev pub textFields : Repetition → Segment → List Bytes
+textFields Nothing s = s
+textFields (By b) s = take 11 s ++ drop 12 s
+
 unfoldable pub goodISA : Delimiters → Segment → Bool
 goodISA d s =
-    all (all (valid d)) s && digits 9 9 (field s 13) && member (field s 15) (ascii "P" ∷ ascii "T" ∷ ascii "I" ∷ [])
+    all (all (valid d)) (textFields (d .repetition) s)
+    && digits 9 9 (field s 13) && member (field s 15) (ascii "P" ∷ ascii "T" ∷ ascii "I" ∷ [])
 
 -- 2 to 5: the length, and the 106 bytes of ISA
 unfoldable pub headRules : Bytes → List Rule

@@ -1,7 +1,7 @@
 // The types that the code and the definitions of document 01 share. The definitions stand in specs/, the theorems on them in proofs/.
 ghost use mathlib.Core.Path.{_≡_};
 ghost use lib.Dec.{eqb};
-ghost use Rattle.rules.specs.Base.{any};
+ghost use Rattle.rules.specs.Base.{any, last};
 ghost use Rattle.rules.specs.Cutting as cutting;
 
 // The names of segments, for what is read and for what is written.
@@ -48,36 +48,61 @@ impl Interchange {
     pub const MOST_GROUPS: u64 = 16;
 }
 
-// The bytes that cut an interchange into segments, elements and components.
+// The repetition separator: a byte, or nothing.
+pub enum Repetition {
+    Nothing,
+    By(u8),
+}
+
+// The bytes that part segments, elements, components and repetitions.
 pub struct Delimiters {
     pub element: u8,
     pub component: u8,
     pub terminator: u8,
+    pub repetition: Repetition,
 }
 
 impl Delimiters {
-    pub fn new(element: u8, component: u8, terminator: u8) -> Self
-        ensures { λ r. ⌜ r ≡ record { element = element; component = component; terminator = terminator } ⌝ }
+    pub fn new(element: u8, component: u8, terminator: u8, repetition: Repetition) -> Self
+        ensures { λ r. ⌜ r ≡ record { element = element; component = component; terminator = terminator; repetition = repetition } ⌝ }
     {
         Self {
             element,
             component,
             terminator,
+            repetition,
         }
     }
 
-    // All of them.
-    pub fn marks(self) -> [u8; 3]
-        ensures { λ r. ⌜ r ≡ cutting.marks self ⌝ }
+    // The byte is the repetition separator.
+    pub fn separates_repetitions(self, b: u8) -> bool
+        ensures { λ r. ⌜ r ≡ cutting.separatesRepetitions self b ⌝ }
     {
-        [self.element, self.component, self.terminator]
+        let repetition = self.repetition;
+        match repetition {
+            Repetition::Nothing => false,
+            Repetition::By(separator) => b == separator,
+        }
     }
 
-    // The byte is one of them.
+    // The last of them, which is the terminator where there is no fourth. So `is_mark` makes the same four comparisons in both cases, which is faster
+    // than to ask which case it is for every byte.
+    fn last(self) -> u8
+        ensures { λ r. ⌜ r ≡ last 0 (cutting.marks self) ⌝ }
+    {
+        let repetition = self.repetition;
+        match repetition {
+            Repetition::Nothing => self.terminator,
+            Repetition::By(separator) => separator,
+        }
+    }
+
+    // The byte is a delimiter.
     pub fn is_mark(self, b: u8) -> bool
         ensures { λ r. ⌜ r ≡ any (eqb b) (cutting.marks self) ⌝ }
     {
-        (b == self.element) | (b == self.component) | (b == self.terminator)
+        let last = self.last();
+        (b == self.element) | (b == self.component) | (b == self.terminator) | (b == last)
     }
 }
 
@@ -155,6 +180,8 @@ impl ElementCode {
     pub const NO_TIME: u8 = 9;
 
     pub const SHUT_OUT: u8 = 10;
+
+    pub const TOO_MANY_REPETITIONS: u8 = 12;
 }
 
 // A code of AK3: what is wrong with a segment.

@@ -204,11 +204,17 @@ pub fn is_time(s: &[u8]) -> bool
     s.len() == 4 || value(&s[4..6]) <= 59
 }
 
-// A valid byte: 32 to 126 and no delimiter.
+// A valid byte: 32 to 126 and no delimiter. The range is asked first: more than half of all bytes are out of it.
 pub fn is_valid(b: u8, d: Delimiters) -> bool
     ensures { λ r. ⌜ r ≡ valid d b ⌝ }
 {
-    (32 <= b) & (b <= 126) & !d.is_mark(b)
+    if b < 32 {
+        return false;
+    }
+    if 126 < b {
+        return false;
+    }
+    !d.is_mark(b)
 }
 
 // Nothing but valid bytes. All are looked at, which takes fewer branches than to stop at the first that is not.

@@ -5,6 +5,7 @@ const DELIMITERS: Delimiters = Delimiters {
     element: b'*',
     component: b'>',
     terminator: b'~',
+    repetition: None,
 };
 
 /// The codes of `elements` under a layout, as (place, code).

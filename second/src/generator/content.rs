@@ -7,10 +7,21 @@ const USUAL: Delimiters = Delimiters {
     element: b'*',
     component: b'>',
     terminator: b'~',
+    repetition: None,
 };
 
-/// Legal delimiters of every kind, the usual ones in half of the cases.
+/// Legal delimiters of every kind, the usual ones in half of the cases. In one
+/// case of five ISA11 is among them.
 pub fn delimiters(prng: &mut Prng) -> Delimiters {
+    let three = three_delimiters(prng);
+    if prng.percent(20) {
+        with_repetition(prng, three)
+    } else {
+        three
+    }
+}
+
+fn three_delimiters(prng: &mut Prng) -> Delimiters {
     match prng.below(10) {
         0 => Delimiters {
             component: b'-',
@@ -33,8 +44,26 @@ fn distinct(prng: &mut Prng, draw: impl Fn(&mut Prng) -> u8) -> Delimiters {
             element: draw(prng),
             component: draw(prng),
             terminator: draw(prng),
+            repetition: None,
         };
         if let Ok(delimiters) = drawn.check() {
+            return delimiters;
+        }
+    }
+}
+
+fn with_repetition(prng: &mut Prng, three: Delimiters) -> Delimiters {
+    loop {
+        let separator = if prng.percent(60) {
+            b'^'
+        } else {
+            any_legal_delimiter(prng)
+        };
+        let four = Delimiters {
+            repetition: Some(separator),
+            ..three
+        };
+        if let Ok(delimiters) = four.check() {
             return delimiters;
         }
     }
@@ -85,10 +114,11 @@ pub fn text(prng: &mut Prng, delimiters: &Delimiters, length: usize) -> Vec<u8> 
 /// A byte that is not valid, yet neither cuts an element nor a segment.
 pub fn invalid_byte(prng: &mut Prng, delimiters: &Delimiters) -> u8 {
     loop {
-        let byte = match prng.below(4) {
+        let byte = match prng.below(5) {
             0 => delimiters.component,
-            1 => prng.byte_between(0, 31),
-            2 => 127,
+            1 => delimiters.repetition.unwrap_or(delimiters.component),
+            2 => prng.byte_between(0, 31),
+            3 => 127,
             _ => prng.byte_between(128, 255),
         };
         if byte != delimiters.element && byte != delimiters.terminator {

@@ -25,7 +25,10 @@ pub fn all_outcomes() -> Vec<Outcome> {
     let mut all: Vec<Outcome> = (0..=14).map(number("ack")).collect();
     all.extend([0, 1, 2, 3, 4, 5, 14, 15].map(number("ta1")));
     all.extend(codes("AK3", &["1", "3", "5", "6", "7", "8"]));
-    all.extend(codes("AK4", &["1", "2", "3", "4", "5", "6", "7", "8"]));
+    all.extend(codes(
+        "AK4",
+        &["1", "2", "3", "4", "5", "6", "7", "8", "12"],
+    ));
     all.extend(codes("AK5", &["A", "R", "1", "2", "3", "4", "5", "23"]));
     all.extend(codes("AK9", &["A", "P", "R", "1", "2", "3", "4", "5"]));
     let counts: Vec<String> = (1..=16).map(|count| count.to_string()).collect();

@@ -3,6 +3,7 @@
 use super::content;
 use super::days;
 use super::prng::Prng;
+use super::repetitions;
 use crate::delimiters::Delimiters;
 
 /// A segment as its id, then its elements: an element's index is its place.
@@ -166,6 +167,7 @@ pub fn segment(parts: &[&str], more: impl IntoIterator<Item = Vec<u8>>) -> Draft
 fn isa_fields(prng: &mut Prng, delimiters: &Delimiters, control: &[u8]) -> [Vec<u8>; 15] {
     let usage = *prng.pick(b"PTI");
     let acknowledgment_requested = acknowledgment_requested(prng, delimiters);
+    let [isa11, isa12] = repetitions::fields(prng, delimiters);
     let mut field = |length| content::text(prng, delimiters, length);
     [
         field(2),
@@ -178,8 +180,8 @@ fn isa_fields(prng: &mut Prng, delimiters: &Delimiters, control: &[u8]) -> [Vec<
         field(15),
         field(6),
         field(4),
-        field(1),
-        field(5),
+        isa11,
+        isa12,
         control.to_vec(),
         vec![acknowledgment_requested],
         vec![usage],

@@ -16,6 +16,7 @@ mod group_damage;
 mod groups;
 pub mod prng;
 mod refusals;
+mod repetitions;
 mod set_damage;
 mod sizes;
 mod soup;
@@ -35,6 +36,8 @@ pub enum Family {
     MonthEnds,
     /// With values that AK4 shows or withholds.
     Echoes,
+    /// With ISA11 as the repetition separator, or nearly, and values that hold it.
+    Repetitions,
     DamagedGroup,
     Soup,
     /// Of one to sixteen groups of every kind.
@@ -142,25 +145,26 @@ pub fn standard_input(seed: u64, index: u64) -> Vec<u8> {
 fn pick_family(prng: &mut Prng) -> Family {
     match prng.below(1000) {
         0..50 => Family::Clean,
-        50..220 => Family::DamagedSets,
-        220..260 => Family::Echoes,
-        260..262 => Family::ManyEchoes,
-        262..302 => Family::MonthEnds,
-        302..382 => Family::DamagedGroup,
-        382..462 => Family::Soup,
-        462..552 => Family::Groups,
-        552..612 => {
+        50..190 => Family::DamagedSets,
+        190..230 => Family::Echoes,
+        230..232 => Family::ManyEchoes,
+        232..272 => Family::MonthEnds,
+        272..352 => Family::Repetitions,
+        352..412 => Family::DamagedGroup,
+        412..477 => Family::Soup,
+        477..567 => Family::Groups,
+        567..627 => {
             let number = *prng.pick(&[7, 7, 7, 8, 8, 8, 9, 10, 11, 12, 13]);
             Family::RefusedGroups(number)
         }
-        612..712 => Family::Envelopes,
-        712..782 => Family::Refusal(prng.byte_between(1, 14)),
-        782..867 => {
+        627..727 => Family::Envelopes,
+        727..797 => Family::Refusal(prng.byte_between(1, 14)),
+        797..882 => {
             let one = prng.between(1, 14) as u8;
             let other = (one + prng.byte_between(0, 12)) % 14 + 1;
             Family::RefusalPair(one.min(other), one.max(other))
         }
-        867..952 => Family::DamagedBytes,
+        882..952 => Family::DamagedBytes,
         952..982 => Family::BufferEdge,
         982..987 => Family::DeepNumbers,
         987..992 => Family::NearShortest,
@@ -178,6 +182,14 @@ fn make_in_family(prng: &mut Prng, family: Family) -> Case {
         Family::DamagedSets => as_drafted(family, &damaged_sets(prng, delimiters)),
         Family::MonthEnds => as_drafted(family, &month_ends(prng, delimiters)),
         Family::Echoes => at_buffer_edge(family, &echoes(prng, delimiters), prng),
+        Family::Repetitions => {
+            let draft = repetitions(prng, delimiters);
+            if prng.percent(20) {
+                at_buffer_edge(family, &draft, prng)
+            } else {
+                as_drafted(family, &draft)
+            }
+        }
         Family::DamagedGroup => as_drafted(family, &damaged_group(prng, delimiters)),
         Family::Soup => as_drafted(family, &soup::soup(prng, delimiters)),
         Family::Groups => at_buffer_edge(family, &groups(prng, delimiters), prng),
@@ -255,6 +267,27 @@ fn echoes(prng: &mut Prng, delimiters: Delimiters) -> Draft {
         damaged_sets(prng, delimiters)
     };
     echoes::put_values(prng, &mut draft);
+    draft
+}
+
+/// One group in most cases, clean in most, and else two or three.
+fn repetitions(prng: &mut Prng, delimiters: Delimiters) -> Draft {
+    let isa11 = repetitions::isa11(prng, &delimiters);
+    // What is put there stands nowhere else, whether it is a delimiter or not.
+    let delimiters = Delimiters {
+        repetition: Some(isa11),
+        ..delimiters
+    };
+    let groups = *prng.pick(&[1, 1, 1, 1, 2, 2, 3]);
+    let parts = (0..groups)
+        .map(|_| match prng.below(10) {
+            0..7 => groups::small(prng, delimiters),
+            7..9 => damaged_sets(prng, delimiters),
+            _ => any_group(prng, delimiters),
+        })
+        .collect();
+    let mut draft = groups::joined(prng, parts);
+    repetitions::put(prng, &mut draft, isa11);
     draft
 }
 

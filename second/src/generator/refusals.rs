@@ -7,6 +7,7 @@ use super::content;
 use super::days;
 use super::draft::{segment, set_element, Draft};
 use super::prng::Prng;
+use super::repetitions;
 use crate::isa::{ISA_LENGTH, LONGEST_INTERCHANGE, SEPARATORS};
 
 /// The part of the damage for refusal `number` that is done to the draft.
@@ -91,15 +92,26 @@ fn spoil_delimiters(prng: &mut Prng, draft: &mut Draft) {
         0 => content::digit(prng),
         1 => b' ',
         2 => prng.byte_between(b'a', b'z'),
-        _ => prng.byte_between(b'A', b'Z'),
+        // `U` for ISA11 would be text.
+        _ => prng.byte_between(b'A', b'T'),
     };
-    match prng.below(6) {
+    match prng.below(8) {
         0 => delimiters.component = delimiters.element,
         1 => delimiters.terminator = delimiters.element,
         2 => delimiters.component = delimiters.terminator,
         3 => delimiters.element = no_delimiter,
         4 => delimiters.component = no_delimiter,
-        _ => delimiters.terminator = no_delimiter,
+        5 => delimiters.terminator = no_delimiter,
+        6 => repetitions::declare(prng, draft, no_delimiter),
+        _ => {
+            let others = [
+                delimiters.element,
+                delimiters.component,
+                delimiters.terminator,
+            ];
+            let equal = *prng.pick(&others);
+            repetitions::declare(prng, draft, equal);
+        }
     }
 }
 
@@ -118,11 +130,21 @@ fn spoil_isa_fields(prng: &mut Prng, draft: &mut Draft) {
                 1 => delimiters.terminator,
                 _ => content::invalid_byte(prng, &delimiters),
             };
-            let field = prng.below(draft.isa.len());
+            let field = *prng.pick(&fields_of_text(draft));
             let at = prng.below(draft.isa[field].len());
             draft.isa[field][at] = bad;
         }
     }
+}
+
+/// The fields that any bad byte spoils. It could make ISA11 a good delimiter
+/// where ISA12 lets it be one, or a text by standing in ISA12.
+fn fields_of_text(draft: &Draft) -> Vec<usize> {
+    let both = [repetitions::ISA11, repetitions::ISA12];
+    let left_out = repetitions::is_repeating(&draft.isa[repetitions::ISA12]);
+    (0..draft.isa.len())
+        .filter(|field| !left_out || !both.contains(field))
+        .collect()
 }
 
 fn spoil_last_byte(prng: &mut Prng, terminator: u8, bytes: &mut Vec<u8>) {
@@ -200,16 +222,16 @@ fn spoil_iea(prng: &mut Prng, draft: &mut Draft) {
 pub fn spoil_iea_group_count(prng: &mut Prng, draft: &mut Draft) {
     let groups = draft.groups();
     let bad = match prng.below(22) {
-        0 | 1 => String::new(),
-        2 => "0".to_string(),
-        3 => "00000".to_string(),
-        4 => "A".to_string(),
-        5 => format!("{groups}0"),
-        6 => format!("1{groups}"),
-        7 => (groups + 256).to_string(),
-        8 => (groups + 65_536).to_string(),
-        9 => (groups + (1 << 32)).to_string(),
-        10 | 11 => format!("{groups:06}"),
+        0 => String::new(),
+        1..4 => format!("{groups:06}"),
+        4 => "0".to_string(),
+        5 => "00000".to_string(),
+        6 => "A".to_string(),
+        7 => format!("{groups}0"),
+        8 => format!("1{groups}"),
+        9 => (groups + 256).to_string(),
+        10 => (groups + 65_536).to_string(),
+        11 => (groups + (1 << 32)).to_string(),
         12 => format!("{groups:010}"),
         13 => format!("-{groups}"),
         14 => format!("+{groups}"),

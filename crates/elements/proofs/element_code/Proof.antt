@@ -1,8 +1,7 @@
 -- `elements::element_code` meets its contract.
 use mathlib.Core.Path.{sym, _∙_}
-use borrow.Author.Tests.{not-true, not-false}
 use Rattle.tables.specs.Reading.{rowAt}
-use Rattle.elements.proofs.Codes.{code-empty, code-filled, code-is}
+use Rattle.elements.proofs.Codes.{code-empty, code-bytes, code-value}
 use borrow.Author.Needs.{needs}
 use Rattle.elements.proofs.element_code.Statement.{statement}
 use Rattle.elements.proofs.element_code.Tie as tie
@@ -10,22 +9,21 @@ use Rattle.elements.proofs.element_code.Tie as tie
 returns : tie.Need-returns
 returns c =
     let a = c .before .before .before .args in
-    let r = rowAt (a .guide .now) (a .k) in
-    c .empty-code .ensures ∙ sym (code-empty r (a .e .now) _ (c .before .if1 .taken)) ∙ code-is (a .d) r (a .e .now)
+    c .empty-code .ensures ∙ sym (code-empty (a .d) (rowAt (a .guide .now) (a .k)) (a .e .now) (c .before .if1 .taken))
 
 returns-2 : tie.Need-returns-2
 returns-2 c =
     let a = c .before .before .before .before .args in
-    let r = rowAt (a .guide .now) (a .k) in
-    let spoiled = sym (c .before .all-valid .ensures) ∙ not-true _ (c .if2 .taken) in
-    sym (code-filled r (a .e .now) _ (c .before .before .if1 .left) ∙ rw spoiled) ∙ code-is (a .d) r (a .e .now)
+    let bytes = c .before .byte-code .ensures in
+    bytes
+    ∙ sym (code-bytes (a .d) (rowAt (a .guide .now) (a .k)) (a .e .now) (c .before .before .if1 .left) (λ z. c .if2 .taken (bytes ∙ z)))
 
 returns-3 : tie.Need-returns-3
 returns-3 c =
     let a = c .before .before .before .before .before .args in
-    let r = rowAt (a .guide .now) (a .k) in
-    let valid = sym (c .before .before .all-valid .ensures) ∙ not-false _ (c .before .if2 .left) in
-    sym (code-filled r (a .e .now) _ (c .before .before .before .if1 .left) ∙ rw valid (sym (c .value-code .ensures))) ∙ code-is (a .d) r (a .e .now)
+    c .value-code .ensures
+    ∙ sym (code-value (a .d) (rowAt (a .guide .now) (a .k)) (a .e .now) (c .before .before .before .if1 .left)
+    (sym (c .before .before .byte-code .ensures) ∙ c .before .if2 .left))
 
 pub element-code-spec : {M : Type 1} → statement M
 element-code-spec =

@@ -24,9 +24,8 @@ unfolding isaOf
 sound i p e = rw (e, p)
 
 -- the marks are those of the interchange
-good : (i : Bytes) {d : Delimiters} {ms : Bytes} {r q : Bool} → d ≡ delimiters i → ms ≡ marks d → r ≡ goodMarks ms → r ≡ q
-    → goodMarks (marks (delimiters i)) ≡ q
-good i p m r q = sym (r ∙ ap goodMarks (m ∙ ap marks p)) ∙ q
+good : (i : Bytes) {d : Delimiters} {r q : Bool} → d ≡ delimiters i → r ≡ goodMarks (marks d) → r ≡ q → goodMarks (marks (delimiters i)) ≡ q
+good i p r q = sym (r ∙ ap (λ (d : Delimiters). goodMarks (marks d)) p) ∙ q
 
 -- the first k rules do not apply where their tests were passed
 abbrev passed : ℕ → Bytes → Type 0
@@ -40,11 +39,11 @@ named : (c : tie.Else3) → passed 2 (c .before .before .before .before .before 
 unfolding first headRules
 named c = sized (c .before .before) ∙ rw (sym (c .before .has-isa .ensures) ∙ not-false _ (c .if3 .left))
 
-marked : (c : tie.Else4) → let named = c .before .before .before .before .before in passed 3 (named .before .before .before .before .before .args .i .now)
+marked : (c : tie.Else4) → let named = c .before .before .before in passed 3 (named .before .before .before .before .before .args .i .now)
 unfolding first headRules
 marked c =
-    let read = c .before .before .before .before in
-    named (read .before) ∙ rw (good _ (read .delimiters .ensures) (c .before .before .before .marks .ensures) (c .before .are-good-marks .ensures) (not-false _ (c .if4 .left)))
+    let read = c .before .before in
+    named (read .before) ∙ rw (good _ (read .delimiters .ensures) (c .before .has-good-marks .ensures) (not-false _ (c .if4 .left)))
 
 returns : tie.Need-returns
 unfolding first headRules
@@ -61,20 +60,20 @@ returns-3 c = refused _ 3 refl (sized (c .before .before) ∙ rw (sym (c .before
 returns-4 : tie.Need-returns-4
 unfolding first headRules
 returns-4 c =
-    let read = c .before .before .before .before in
+    let read = c .before .before in
     refused _ 4 refl
-    (named (read .before) ∙ rw (good _ (read .delimiters .ensures) (c .before .before .before .marks .ensures) (c .before .are-good-marks .ensures) (not-true _ (c .if4 .taken))))
+    (named (read .before) ∙ rw (good _ (read .delimiters .ensures) (c .before .has-good-marks .ensures) (not-true _ (c .if4 .taken))))
 
 returns-5 : tie.Need-returns-5
 unfolding first headRules
 returns-5 c =
-    let read = c .before .before .before .before .before .before in
+    let read = c .before .before .before .before in
     refused _ 5 refl (marked (c .before .before) ∙ rw (← read .delimiters .ensures, sym (c .before .is-good-isa .ensures) ∙ not-true _ (c .if5 .taken)))
 
 returns-6 : tie.Need-returns-6
 unfolding first headRules
 returns-6 c =
-    let read = c .before .before .before .before .before .before in
+    let read = c .before .before .before .before in
     sound _ (read .delimiters .ensures)
     (marked (c .before .before) ∙ rw (← read .delimiters .ensures, sym (c .before .is-good-isa .ensures) ∙ not-false _ (c .if5 .left)))
 
@@ -87,8 +86,6 @@ read-isa-spec =
     (λ c κs. search needs)
     returns-3
     (λ c κs. search needs)
-    (λ c κs. search needs)
-    (λ c. search needs)
     (λ c κs. search needs)
     returns-4
     (λ c κs. search needs)

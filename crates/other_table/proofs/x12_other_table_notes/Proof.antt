@@ -14,15 +14,17 @@ use Rattle.other_table.proofs.x12_other_table_notes.Tie as tie
 returns : tie.Need-returns
 unfolding everything filled kindOf relationOf codesIn rowsIn syntaxIn entriesIn idsIn tableOf idsAreBytes t1Rows t1Notes otherTable
 returns c =
+    let walk = c .before .before in
     notes-written _ (omega arith) _ _
     (record { begins = refl; few = lit≤ tt; ids = refl })
     refl
-    (c .before .before .put-notes .ensures)
+    (rw (walk .before .before .before .before .new .ensures) at (walk .put-notes .ensures))
 
 pub x12-other-table-notes-spec : {M : Type 1} → statement M
 x12-other-table-notes-spec =
     tie.close
     (tie.spec
+    (λ c κs. search needs)
     (λ c. search needs)
     (λ c. search needs)
     (λ c κs. search needs)
