@@ -55,8 +55,9 @@ extern "C" {
  *
  * The delimiters are the element separator, the component separator, the segment
  * terminator and, where ISA12 is five digits of value 402 or more and ISA11 is
- * not U, ISA11 as the repetition separator. 5 does not look at ISA11 then. A
- * response has the first three of them; its ISA11 is U.
+ * not U, ISA11 as the repetition separator. 5 does not look at ISA11 then, and
+ * no other field of ISA may have that byte. A response has the first three of
+ * them; its ISA11 is U.
  *
  * Each function has more numbers of its own, below. It tests in the order in
  * which they are listed, 14 last, and returns the first that applies.
@@ -85,7 +86,8 @@ extern "C" {
  *
  * An AK4 with code 4, 5, 7, 8, 9 or 10 shows the first 99 bytes of the element
  * as received, unless the element has a byte that is not valid. No element of
- * the tables may repeat: one with the repetition separator in it has code 12.
+ * the tables may repeat: one with the repetition separator in it has code 12,
+ * and is not shown.
  *
  * Refuses with 1 to 5, and then with the numbers below. 9 to 13 are tested on one
  * group before the next; a group that is refused refuses the interchange.

@@ -6,17 +6,19 @@ use mathlib.Core.List.{List, [], _++_, append-assoc}
 use Prim.Native.Nat.{ℕ, _+_, _≤_, _<_}
 use lib.ListN.{length, take, drop, getD}
 use Rattle.rules.specs.Base.{Bytes, ascii, same, keep, if_then_else_}
-use Rattle.rules.specs.Cutting.{Segment, field, delimiters}
+use Rattle.rules.specs.Cutting.{Segment, field, repetitionIn, delimiters}
 use Rattle.rules.specs.Numbers.{padded, decimal}
 use Rattle.rules.specs.Sets.{Set, segmentsOf, SetReport, setReport, isST}
 use Rattle.rules.specs.Groups.{Group, sets, tableIn, acceptedIn, GroupReport, groupReport}
 use Rattle.rules.specs.Response.{segmentOut, out, ak5, ak9, seOut, told, transactionSet, geOut, response}
 use Rattle.rules.specs.Damage.{groupsIn, closing, beginning, ending, blocksOf, joined}
 use Rattle.rules.specs.declared.Call.{Call}
+use Rattle.rules.specs.declared.Repetition.the-variants.{By}
 use Rattle.rules.proofs.Facts.{allowed-counts, segments-counted}
 use Rattle.rules.proofs.Damage.{acknowledgment-parts}
 use Rattle.rules.proofs.Accepting.{Sound, accepting, before, report-at, four-codes, received-headers}
 use Rattle.rules.proofs.Echo.{Points, report-points}
+use Rattle.rules.proofs.Repeating.{Ordered, Unrepeated, report-ordered, sound-unrepeated}
 use Rattle.rules.proofs.Logic.{last-snoc, Each}
 use Rattle.rules.proofs.Placed.{headingOf, upToSet, beyondSet, acknowledgment-at, says-exactly, upToGroup, beyondGroup, response-at}
 
@@ -53,6 +55,12 @@ pub record Tells (i lent : Bytes) (call : Call) (m : ℕ) (w : Group) (k : ℕ) 
   pub few : length (reportAt i m w k y .codes) ≤ 4
   -- the findings of each of its notes show elements of the segment at the note's position
   pub echoes : Each (Points (delimiters i) 1 (segmentsOf (getD (setsAt i m w) k x))) (reportAt i m w k y .notes)
+  -- and stand by place and then by code
+  pub ordered : Each Ordered (reportAt i m w k y .notes)
+  -- where it is sound, no element at a place of its table holds the repetition separator
+  pub unrepeated : (b : ℕ) → repetitionIn i ≡ By b
+      → (sound : Sound (delimiters i) (groupNumbered i m w .header) (take k (setsAt i m w)) (getD (setsAt i m w) k x))
+      → Unrepeated b (sound .table) (getD (setsAt i m w) k x)
 
 -- what a buffer counts of group m of the interchange i
 pub record Counts (i lent : Bytes) (call : Call) (m : ℕ) (w : Group) (left : Bytes) : Type 0 where
@@ -84,7 +92,7 @@ module _ (i lent : Bytes) (call : Call) (left : Bytes) (answered : left ≡ resp
     (among : m < length (groupsIn i)) where
   -- The block of set k of group m, its verdict and its echoes. Shut out: "accepted" for all, the first set's verdict for each, a test left out, a
   -- set's verdict in another's block or another group's 997, an ST02 of an earlier group taken for one of this; an echo cut at 98 or 100, under
-  -- code 6 or 12, without its minus, or of the element beside it.
+  -- code 6 or 12, without its minus, or of the element beside it; AK4 out of their order or twice, and a repeated element that is accepted.
   pub tells : (k : ℕ) (x : Set) (y : SetReport) → k < length (setsAt i m w) → Tells i lent call m w k x y left
   tells k x y h =
       let d = delimiters i in
@@ -98,6 +106,8 @@ module _ (i lent : Bytes) (call : Call) (left : Bytes) (answered : left ≡ resp
             subst⁻¹ (λ (r : SetReport). length (r .codes) ≤ 4) (report-at d g k x y h)
             (four-codes d (tableIn (g .header) s) (before [] k (sets g)) s);
         echoes = report-points d g k x y h;
+        ordered = report-ordered d g k x y h;
+        unrepeated = λ b r. sound-unrepeated i b r (g .header) (take k (sets g)) s;
       }
 
   -- The counts of group m. Shut out: AK903 or AK904 from thin air, AK903 from GE01 or of the sets that have a trailer only, a count over all

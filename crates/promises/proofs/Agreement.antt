@@ -21,6 +21,7 @@ use Rattle.rules.specs.declared.Delimiters.{Delimiters}
 use Rattle.rules.proofs.Facts.{allowed-outcome}
 use Rattle.rules.proofs.InterchangeAcknowledgment.{verdictIn, isa-long, response-long, verdict-stands, acceptedVerdict, OfVerdict, StandsFor, past-opening, opening-again, opening-good, opened, asked-passes, long-enough, passed-accepted, accepted-spared, rejected-stands}
 use Rattle.rules.proofs.Exchange.{sampleCall}
+use Rattle.rules.proofs.Caret.{Barred, barred, receivedWith, barredBy}
 use Rattle.rules.proofs.Envelopes.{Row, envelopes, receivedAs, sentAs}
 use Rattle.promises.proofs.Shown as shown
 use Rattle.promises.proofs.Shown.{holding}
@@ -57,10 +58,18 @@ pub record Promised (i lent : Bytes) (call : Call) (o : Outcome) : Type 0 where
   -- these lines elsewhere
   pub envelopes : (e : Row) (k : ℕ) → k < length envelopes → i ≡ receivedAs (getD envelopes k e) → call ≡ sampleCall
       → length (sentAs (getD envelopes k e)) ≤ length lent → o ≡ holding (sentAs (getD envelopes k e)) lent
+  -- row k of the table of separators that are refused, where its number is 4 or 5: shut out is a TA1 that does not know the separator
+  pub barred : (b : Barred) (k : ℕ) → k < length barred → i ≡ receivedWith "00601" (getD barred k b) → call ≡ sampleCall
+      → leb (barredBy (getD barred k b)) 5 ≡ true → o ≡ record { number = barredBy (getD barred k b); size = 0; buffer = lent }
 
 module _ (i lent : Bytes) (call : Call) (o : Outcome) (p : o ≡ called (interchangeAcknowledgment i call) lent) where
   abbrev reply : Reply
   reply = interchangeAcknowledgment i call
+
+  -- the outcome of a call on what is known to be received
+  onto : {j : Bytes} {c : Call} → i ≡ j → call ≡ c → o ≡ called (interchangeAcknowledgment j c) lent
+  onto {j} e f =
+      p ∙ ap (λ (i : Bytes). called (interchangeAcknowledgment i call) lent) e ∙ ap (λ (c : Call). called (interchangeAcknowledgment j c) lent) f
 
   number-is : o .number ≡ called reply lent .number
   number-is = ap (λ (o : Outcome). o .number) p
@@ -88,10 +97,8 @@ module _ (i lent : Bytes) (call : Call) (o : Outcome) (p : o ≡ called (interch
     answered = answered-whole;
     too-long = λ e h. let long = response-long i call (long-enough i call e) in p ∙ shown.too-long reply lent e (rw long h) ∙ rw long;
     verdict = verdict-left;
-    envelopes = λ e k h f g room.
-        p ∙ ap (λ (i : Bytes). called (interchangeAcknowledgment i call) lent) f
-        ∙ ap (λ (c : Call). called (interchangeAcknowledgment (receivedAs (getD envelopes k e)) c) lent) g
-        ∙ shown.envelopes-shown e k h lent room;
+    envelopes = λ row k h e f room. onto e f ∙ shown.envelopes-shown row k h lent room;
+    barred = λ row k h e f early. onto e f ∙ shown.barred-ta1-shown row k h lent early;
   }
 
 -- All of it holds of the Rattle function, which asks nothing,

@@ -6,7 +6,7 @@ use Prim.Native.Nat.{ℕ, _≤_, _<_}
 use denote.Ref.{now}
 use lib.ListN.{length, drop, getD}
 use Rattle.rules.specs.Base.{Bytes, all}
-use Rattle.rules.specs.Cutting.{delimiters}
+use Rattle.rules.specs.Cutting.{repetitionIn, delimiters}
 use Rattle.rules.specs.Sets.{Set, SetReport}
 use Rattle.rules.specs.Groups.{Group}
 use Rattle.rules.specs.Refusals.{refusal}
@@ -14,8 +14,11 @@ use Rattle.rules.specs.Response.{out, respond, response}
 use Rattle.rules.specs.Answers.{Reply, functionalAcknowledgment, Outcome, outcome, called}
 use Rattle.rules.specs.Damage.{groupsIn}
 use Rattle.rules.specs.declared.Call.{Call}
+use Rattle.rules.specs.declared.Repetition.the-variants.{By}
+use Rattle.rules.proofs.Logic.{Each}
+use Rattle.rules.proofs.Sent.{Without, separator-unadmitted}
 use Rattle.rules.proofs.Exchange.{received, sent, sampleCall, receivedTwo, sentTwo, Faulty, faulty, receivedOf, refusalOf}
-use Rattle.rules.proofs.Caret.{Repeated, repeated, receivedUnder, sentUnder, Barred, barred, receivedWith, barredBy}
+use Rattle.rules.proofs.Caret.{Repeated, repeated, receivedUnder, sentUnder, Barred, barred, receivedWith, barredBy, formerly}
 use Rattle.rules.proofs.Marked.{Marked, marked, receivedFor, sentFor}
 use Rattle.rules.proofs.Tempting.{Group as Tempted, groups, receivedIn, sentIn}
 use Rattle.rules.proofs.Unused.{isSpared, respond-spared}
@@ -51,8 +54,8 @@ pub record Promised (i lent : Bytes) (call : Call) (o : Outcome) : Type 0 where
   -- none of them is an AK4 with the code 9 or 10: shut out is a program that tells of a bad date by 9
   pub unused : o .number ≡ 0 → all isSpared (respond i (groupsIn i) call) ≡ true
   -- an answer has the block of set k of group m in its place; its AK5 says A exactly when the set is sound, and its AK4 show of the elements that they name
-  -- what they may: shut out are "accepted" for all, the first set's verdict for each, a test left out, an echo that is cut at 98 or 100, one under
-  -- code 6 or 12, one without its minus, and one of the element beside it
+  -- what they may, by place and then by code: shut out are "accepted" for all, the first set's verdict for each, a test left out, an echo that is cut at
+  -- 98 or 100, one under code 6 or 12, one without its minus, one of the element beside it, and a repeated element that is accepted
   pub sets : o .number ≡ 0 → (m : ℕ) (w : Group) → m < length (groupsIn i)
       → (k : ℕ) (x : Set) (y : SetReport) → k < length (setsAt i m w) → Tells i lent call m w k x y (o .buffer)
   -- an answer has a 997 for group m, the one with the number m + 1, and says in its AK903 how many ST segments the group has: shut out are AK903 from
@@ -61,6 +64,9 @@ pub record Promised (i lent : Bytes) (call : Call) (o : Outcome) : Type 0 where
   -- an answer is given only where the caller's date, each GS04, and the B103 of accepted sets are days of the calendar: shut out is a program that takes
   -- 20230230
   pub dated : o .number ≡ 0 → Dated i call
+  -- an answer is given only where the repetition separator stands in no text of a GS and in no ST02 of any group: shut out is a program that looks at
+  -- those of the first group only
+  pub separated : o .number ≡ 0 → (b : ℕ) → repetitionIn i ≡ By b → Each (Without b) (groupsIn i)
   -- P1 to P12: row k of their table is answered, and its whole response stands at the start of the buffer: shut out is a program that draws one
   -- of these lines elsewhere
   pub marked : (m : Marked) (k : ℕ) → k < length marked → i ≡ receivedFor (getD marked k m) → call ≡ sampleCall
@@ -81,7 +87,12 @@ pub record Promised (i lent : Bytes) (call : Call) (o : Outcome) : Type 0 where
   -- elements with a repetition separator, row k of their table: shut out is a program that finds 12 elsewhere or shows such a value
   pub repeated : (r : Repeated) (k : ℕ) → k < length repeated → i ≡ receivedUnder (getD repeated k r) → call ≡ sampleCall
       → length (sentUnder (getD repeated k r)) ≤ length lent → o ≡ holding (sentUnder (getD repeated k r)) lent
-  -- separators that are refused, row k of their table: shut out is a program that takes a letter or a delimiter for one, or lets one into a name
+  -- separators that are refused, row k of their table, with ISA12 00401, where ISA11 is text: shut out is a program that knows a separator there
+  pub beside-refused : (b : Barred) (k : ℕ) → k < length barred → i ≡ receivedWith "00401" (getD barred k b) → call ≡ sampleCall
+      → (formerly (getD barred k b) ≡ 0 → ⊥) → o ≡ record { number = formerly (getD barred k b); size = 0; buffer = lent }
+  pub beside-answered : (b : Barred) (k : ℕ) → k < length barred → i ≡ receivedWith "00401" (getD barred k b) → call ≡ sampleCall
+      → formerly (getD barred k b) ≡ 0 → length (response i call) ≤ length lent → o ≡ holding (response i call) lent
+  -- and with ISA12 00601: shut out is a program that takes a letter or a delimiter for one, or lets one into a name
   pub barred : (b : Barred) (k : ℕ) → k < length barred → i ≡ receivedWith "00601" (getD barred k b) → call ≡ sampleCall
       → o ≡ record { number = barredBy (getD barred k b); size = 0; buffer = lent }
 
@@ -117,6 +128,7 @@ module _ (i lent : Bytes) (call : Call) (o : Outcome) (p : o ≡ called (functio
     sets = λ e m w among. tells i lent call (o .buffer) (left-is e) m w among;
     counts = λ e m w among. accepted.counts i lent call (o .buffer) (left-is e) m w among;
     dated = λ e. answered-dated i call (wrote e .0);
+    separated = λ e. separator-unadmitted i call (wrote e .0);
     marked = λ m k h e f room. onto e f ∙ shown.marked-shown m k h lent room;
     groups = λ g k h e f room. onto e f ∙ shown.groups-shown g k h lent room;
     exchange = λ e f room. onto e f ∙ shown.exchange-shown lent room;
@@ -124,6 +136,8 @@ module _ (i lent : Bytes) (call : Call) (o : Outcome) (p : o ≡ called (functio
     two = λ e f room. onto e f ∙ shown.two-shown lent room;
     faulty = λ row k h e f. onto e f ∙ shown.faulty-shown row k h lent;
     repeated = λ row k h e f room. onto e f ∙ shown.repeated-shown row k h lent room;
+    beside-refused = λ row k h e f some. onto e f ∙ shown.beside-refused row k h lent some;
+    beside-answered = λ row k h e f none. rw (e, f) (λ room. onto e f ∙ shown.beside-shown row k h lent none room);
     barred = λ row k h e f. onto e f ∙ shown.barred-shown row k h lent;
   }
 

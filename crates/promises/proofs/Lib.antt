@@ -10,6 +10,7 @@ pub mod Agreement
 pub mod Alone
 pub mod OneGroup
 pub mod Unrepeated
+pub mod Separated
 pub mod Repeating
 pub mod Printed
 pub mod Determined

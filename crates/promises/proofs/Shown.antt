@@ -4,11 +4,12 @@ use mathlib.Core.Bool.{Bool, true, false, _&&_, not}
 use mathlib.Core.List.{_++_}
 use Prim.Native.Nat.{ℕ, _≤_, _<_}
 use native.Mathlib.Omega.{arith}
-use borrow.Author.Tests.{not-true, ne-eqb, eqb-true, eqb-false, leb-true, le-leb, lt-leb}
+use borrow.Author.Tests.{not-true, eq-eqb, ne-eqb, eqb-true, eqb-false, leb-true, le-leb, lt-leb}
 use lib.Dec.{leb, eqb}
 use lib.ListN.{length, drop, getD}
 use Rattle.rules.specs.Base.{Bytes, same, if_then_else_}
 use Rattle.rules.specs.Refusals.{refusal}
+use Rattle.rules.specs.Response.{response}
 use Rattle.rules.specs.InterchangeAcknowledgment.{interchangeRefusal}
 use Rattle.rules.specs.Answers.{Reply, functionalAcknowledgment, interchangeAcknowledgment, Outcome, answer, called}
 use Rattle.rules.proofs.Logic.{and-left, and-right, all-at, same→eq}
@@ -138,20 +139,58 @@ repeated-shown r k h lent room =
     let row = getD repeated k r in
     held-by (functionalAcknowledgment (receivedUnder row) sampleCall) (sentUnder row) lent (all-at caret.isRight repeated r k caret.all-repeated h) room
 
--- Separators that are refused, row k of their table, with ISA12 00601. Shut out: a program that takes a letter or a delimiter for a separator, or lets one
--- into a name.
-pub barred-shown : (b : Barred) (k : ℕ) → k < length barred → (lent : Bytes)
-    → called (functionalAcknowledgment (receivedWith "00601" (getD barred k b)) sampleCall) lent
-    ≡ record { number = barredBy (getD barred k b); size = 0; buffer = lent }
-unfolding isBarred
-barred-shown b k h lent =
-    let row = getD barred k b in
-    let n = barredBy row in
-    let i = receivedWith "00601" row in
-    let by = not (eqb n 0) && eqb (refusal i sampleCall) n in
-    let ta1 = eqb (interchangeRefusal i sampleCall) (if leb n 5 then n else 0) in
-    let former = eqb (refusal (receivedWith "00401" row) sampleCall) (formerly row) in
-    refused-by (functionalAcknowledgment i sampleCall) n lent (and-left by ta1 (and-left (by && ta1) former (all-at isBarred barred b k all-barred h)))
+-- Separators that are refused, row k of their table.
+module _ (b : Barred) (k : ℕ) (h : k < length barred) where
+  abbrev barring : Barred
+  barring = getD barred k b
+
+  abbrev separating : Bytes
+  separating = receivedWith "00601" barring
+
+  abbrev beside : Bytes
+  beside = receivedWith "00401" barring
+
+  -- its tests: the refusal with ISA12 00601, that for a TA1, and the refusal with 00401
+  barred-tests : (not (eqb (barredBy barring) 0) && eqb (refusal separating sampleCall) (barredBy barring) ≡ true)
+      × (interchangeRefusal separating sampleCall ≡ (if leb (barredBy barring) 5 then barredBy barring else 0))
+      × (refusal beside sampleCall ≡ formerly barring)
+  unfolding isBarred
+  barred-tests =
+      let n = barredBy barring in
+      let early = if leb n 5 then n else 0 in
+      let by = not (eqb n 0) && eqb (refusal separating sampleCall) n in
+      let ta1 = eqb (interchangeRefusal separating sampleCall) early in
+      let former = eqb (refusal beside sampleCall) (formerly barring) in
+      let all = all-at isBarred barred b k all-barred h in (
+        and-left by ta1 (and-left (by && ta1) former all),
+        eqb-true (interchangeRefusal separating sampleCall) early (and-right by ta1 (and-left (by && ta1) former all)),
+        eqb-true (refusal beside sampleCall) (formerly barring) (and-right (by && ta1) former all),
+      )
+
+  -- With ISA12 00601. Shut out: a program that takes a letter or a delimiter for a separator, or lets one into a name.
+  pub barred-shown : (lent : Bytes)
+      → called (functionalAcknowledgment separating sampleCall) lent ≡ record { number = barredBy barring; size = 0; buffer = lent }
+  barred-shown lent = refused-by (functionalAcknowledgment separating sampleCall) (barredBy barring) lent (barred-tests .0)
+
+  -- The same for a TA1, where the number is 4 or 5. Shut out: a separator that the TA1 does not know.
+  pub barred-ta1-shown : (lent : Bytes) → leb (barredBy barring) 5 ≡ true
+      → called (interchangeAcknowledgment separating sampleCall) lent ≡ record { number = barredBy barring; size = 0; buffer = lent }
+  barred-ta1-shown lent early =
+      let n = barredBy barring in
+      let some = and-left (not (eqb n 0)) (eqb (refusal separating sampleCall) n) (barred-tests .0) in
+      let number : interchangeRefusal separating sampleCall ≡ n = barred-tests .1 ∙ rw early in
+      refused-by (interchangeAcknowledgment separating sampleCall) n lent (rw (some, number) (eq-eqb n n refl))
+
+  -- Beside it, with ISA12 00401, where ISA11 is text. Shut out: a program that knows a separator there.
+  pub beside-refused : (lent : Bytes) → (formerly barring ≡ 0 → ⊥)
+      → called (functionalAcknowledgment beside sampleCall) lent ≡ record { number = formerly barring; size = 0; buffer = lent }
+  beside-refused lent some =
+      let number = barred-tests .2 in
+      refused (functionalAcknowledgment beside sampleCall) lent (λ z. some (sym number ∙ z)) ∙ rw number
+
+  pub beside-shown : (lent : Bytes) → formerly barring ≡ 0 → length (response beside sampleCall) ≤ length lent
+      → called (functionalAcknowledgment beside sampleCall) lent ≡ holding (response beside sampleCall) lent
+  beside-shown lent none room = answered (functionalAcknowledgment beside sampleCall) lent (barred-tests .2 ∙ none) room
 
 -- The envelopes of change requests 3 and 6, row k of their table. Shut out: a program that draws one of these lines elsewhere.
 pub envelopes-shown : (e : Row) (k : ℕ) → k < length envelopes → (lent : Bytes) → length (sentAs (getD envelopes k e)) ≤ length lent

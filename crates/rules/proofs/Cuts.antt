@@ -96,7 +96,13 @@ unfolding split all
 split-free s [] = refl
 split-free s (b ∷ bs) = cutAt-free s b (eqb b s) (λ e. e) (split s bs) (split-free s bs)
 
--- a byte t that is not among the bytes is not among the fields
+-- a byte t that is not among the bytes is not among the pieces, nor among the fields
+pieces-other : (u t : ℕ) (bs : Bytes) → free t bs ≡ true → all (free t) (pieces u bs) ≡ true
+unfolding pieces all
+pieces-other u t [] e = refl
+pieces-other u t (b ∷ bs) e =
+    cutAt-free t b (eqb b u) (λ h. free-head t b bs e) (pieces u bs) (pieces-other u t bs (free-tail t b bs e))
+
 split-other : (s t : ℕ) (bs : Bytes) → free t bs ≡ true → all (free t) (split s bs) ≡ true
 unfolding split all
 split-other s t [] e = refl
@@ -127,6 +133,14 @@ whole-split d (p ∷ ps) e =
 pub segments-whole : (d : Delimiters) (i : Bytes) → all (isWhole d) (segments d i) ≡ true
 unfolding segments
 segments-whole d i = whole-split d (pieces (d .terminator) i) (pieces-free (d .terminator) i)
+
+pub segments-other : (d : Delimiters) (t : ℕ) (bs : Bytes) → free t bs ≡ true → all (all (free t)) (segments d bs) ≡ true
+unfolding segments all
+segments-other d t bs e = go (pieces (d .terminator) bs) (pieces-other (d .terminator) t bs e)
+  where
+    go : (ps : List Bytes) → all (free t) ps ≡ true → all (all (free t)) (map (split (d .element)) ps) ≡ true
+    go [] e = refl
+    go (p ∷ ps) e = rw (split-other (d .element) t p (all-head (free t) p ps e)) (go ps (all-tail (free t) p ps e))
 
 -- 4. Writing undoes cutting, where the last byte ends a segment.
 push-out : (d : Delimiters) (b : ℕ) (ps : List Bytes) → null ps ≡ false → segmentOut d (push b ps) ≡ b ∷ segmentOut d ps

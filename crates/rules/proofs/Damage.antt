@@ -369,7 +369,7 @@ module _ (i : Bytes) (call : Call) (p : Passed i call) where
   rest-joins [] e = refl
   rest-joins (b ∷ bs) e =
       out-segments (delimiters i) b bs
-      (sym (last-append 0 (take 106 i) b bs) ∙ ap (λ (l : Bytes). last 0 (take 106 i ++ l)) (sym e) ∙ ap (last 0) (take-append-drop 106 i) ∙ p .header .ends)
+      (sym (last-append 0 (take 106 i) b bs) ∙ ap (λ (l : Bytes). last 0 (take 106 i ++ l)) (sym e) ∙ ap (last 0) (take-append-drop 106 i) ∙ p .ends)
 
   -- the interchange with its own groups is itself
   pub rebuilt-own : rebuilt i (groupsIn i) ≡ i
@@ -412,7 +412,7 @@ module _ (i : Bytes) (call : Call) (p : Passed i call) where
 
     ends-after : last 0 (rebuilt i after) ≡ last 0 i
     unfolding rebuilt
-    ends-after = out-last (delimiters i) (take 106 i) (flatGroups after) iea iea-whole ∙ sym (p .header .ends)
+    ends-after = out-last (delimiters i) (take 106 i) (flatGroups after) iea iea-whole ∙ sym (p .ends)
 
     pair : Spoiled i (rebuilt i after) (groupsIn i) after
     pair = record {

@@ -147,7 +147,7 @@ texts-free t i l true n e =
     ∙ all-append (free t) before (field s 11 ∷ after) (all-left (free t) before after e)
     (all-cons (free t) (field s 11) after (rw (isa11-byte i l) (free-other t (getD i 82 0) n)) (all-right (free t) before after e))
 
--- what the refusals over the bytes leave
+-- what the refusals over the 106 bytes leave
 pub record Header (i : Bytes) : Type 0 where
   pub long : 106 ≤ length i
   pub short : length i ≤ 65536
@@ -155,7 +155,6 @@ pub record Header (i : Bytes) : Type 0 where
   pub fields : all (free (delimiters i .terminator)) (isa i) ≡ true
   pub element≢ : eqb (delimiters i .element) (delimiters i .terminator) ≡ false
   pub component≢ : eqb (delimiters i .component) (delimiters i .terminator) ≡ false
-  pub ends : last 0 i ≡ delimiters i .terminator
 
 -- marks that differ: the terminator is none of the others
 pub marks-differ : (d : Delimiters) → distinct (marks d) ≡ true
@@ -188,6 +187,26 @@ fields-free i l n v =
     texts-free t i l (knowsRepetition (field (isa i) 12) && not (eqb (getD i 82 0) 85)) n
     (all-weaken (all (valid d)) (free t) (all-weaken (valid d) (λ b. not (eqb b t)) (valid-free d)) (textFields (repetitionIn i) (isa i)) v)
 
+pub header : (i : Bytes) → between 106 65536 (length i) ≡ true → hasISA i ≡ true → goodMarks (marks (delimiters i)) ≡ true
+    → goodISA (delimiters i) (isa i) ≡ true → Header i
+unfolding hasISA goodMarks goodISA delimiters
+header i sized opened marked headed =
+    let d = delimiters i in
+    let n = length i in
+    let differ = marks-differ d (and-left (distinct (marks d)) (all plain (marks d)) marked) in
+    let v = all (all (valid d)) (textFields (d .repetition) (isa i)) in
+    let long = leb-true 106 n (and-left (leb 106 n) (leb n 65536) sized) in
+    let nine = digits 9 9 (field (isa i) 13) in
+    let pti = member (field (isa i) 15) (ascii "P" ∷ ascii "T" ∷ ascii "I" ∷ []) in
+    record {
+      long = long;
+      short = leb-true n 65536 (and-right (leb 106 n) (leb n 65536) sized);
+      separated = and-right (same (take 3 i) (ascii "ISA")) (all (λ at. eqb (getD i at 0) (getD i 3 0)) separators) opened;
+      fields = fields-free i long (differ .2) (and-left v nine (and-left (v && nine) pti headed));
+      element≢ = differ .0;
+      component≢ = differ .1;
+    }
+
 -- the rules 1 to 8
 abbrev pub toEight : Bytes → Call → List Rule
 toEight i call =
@@ -203,40 +222,28 @@ pub record Passed (i : Bytes) (call : Call) : Type 0 where
   pub opened : hasISA i ≡ true
   pub marked : goodMarks (marks (delimiters i)) ≡ true
   pub headed : goodISA (delimiters i) (isa i) ≡ true
+  pub ends : last 0 i ≡ delimiters i .terminator
   pub envelope : enveloped mostGroups (segments (delimiters i) i) ≡ true
   pub two : hasTwo (last [] (segments (delimiters i) i)) ≡ true
   pub closed : closes (last [] (segments (delimiters i) i)) (field (isa i) 13) ≡ true
   pub counted : countsGroups (length (groupsIn i)) (last [] (segments (delimiters i) i)) ≡ true
 
 pub passed : (i : Bytes) (call : Call) → first (toEight i call) ≡ 0 → Passed i call
-unfolding callRules headRules endRules envelopeRules trailerRules hasISA goodMarks goodISA delimiters
+unfolding callRules headRules endRules envelopeRules trailerRules
 passed i call e =
     let d = delimiters i in
-    let n = length i in
     let r = silent (toEight i call) tt e in
-    let sized = not-false (between 106 65536 n) (r .1 .0) in
+    let sized = not-false (between 106 65536 (length i)) (r .1 .0) in
     let opened = not-false (hasISA i) (r .1 .1 .0) in
     let marked = not-false (goodMarks (marks d)) (r .1 .1 .1 .0) in
     let headed = not-false (goodISA d (isa i)) (r .1 .1 .1 .1 .0) in
-    let differ = marks-differ d (and-left (distinct (marks d)) (all plain (marks d)) marked) in
-    let v = all (all (valid d)) (textFields (d .repetition) (isa i)) in
-    let long = leb-true 106 n (and-left (leb 106 n) (leb n 65536) sized) in
-    let nine = digits 9 9 (field (isa i) 13) in
-    let pti = member (field (isa i) 15) (ascii "P" ∷ ascii "T" ∷ ascii "I" ∷ []) in
     record {
       numbers = not-false (goodCall call) (r .0);
-      header = record {
-        long = long;
-        short = leb-true n 65536 (and-right (leb 106 n) (leb n 65536) sized);
-        separated = and-right (same (take 3 i) (ascii "ISA")) (all (λ at. eqb (getD i at 0) (getD i 3 0)) separators) opened;
-        fields = fields-free i long (differ .2) (and-left v nine (and-left (v && nine) pti headed));
-        element≢ = differ .0;
-        component≢ = differ .1;
-        ends = eqb-true (last 0 i) (d .terminator) (not-false (eqb (last 0 i) (d .terminator)) (r .1 .1 .1 .1 .1 .0));
-      };
+      header = header i sized opened marked headed;
       opened = opened;
       marked = marked;
       headed = headed;
+      ends = eqb-true (last 0 i) (d .terminator) (not-false (eqb (last 0 i) (d .terminator)) (r .1 .1 .1 .1 .1 .0));
       envelope = not-false _ (r .1 .1 .1 .1 .1 .1 .0);
       two = not-false _ (r .1 .1 .1 .1 .1 .1 .1 .0);
       closed = not-false _ (r .1 .1 .1 .1 .1 .1 .1 .1 .0);

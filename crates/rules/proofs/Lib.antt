@@ -24,4 +24,5 @@ pub mod OneGroup
 pub mod Alone
 pub mod Unrepeated
 pub mod Separator
+pub mod Without
 pub mod Sent

@@ -1,23 +1,30 @@
--- Change request 9: the codes of a place, and the findings of a segment, stand in their order; and what is found of an element that holds the
--- repetition separator.
-use mathlib.Core.Path.{_≡_, refl, ap, _∙_}
-use mathlib.Core.Bool.{Bool, true, false, _&&_, not, false≢true, true≢false}
+-- Change request 9: the codes of a place, and the findings of a segment, stand in their order; what is found of an element that holds the
+-- repetition separator, and that code 12 is found nowhere else.
+use mathlib.Core.Path.{_≡_, refl, sym, ap, _∙_}
+use mathlib.Core.Bool.{Bool, true, false, _&&_, _||_, not, false≢true, true≢false}
 use mathlib.Core.Logic.{_⊎_, inl, inr}
 use mathlib.Core.List.{List, [], _∷_, _++_, map, append-nil}
+use mathlib.Core.Option.{Option, none, some}
 use Prim.Native.Nat.{ℕ, zero, suc, _+_, _≤_, _<_}
 use native.Mathlib.Nat.{not-suc-le-zero}
 use native.Mathlib.Omega.{arith}
-use borrow.Author.Tests.{leb-true, eqb-true, eq-eqb, ne-eqb}
+use borrow.Author.Tests.{not-false, leb-true, eqb-true, eq-eqb, ne-eqb}
 use lib.Dec.{leb, ltb, eqb}
 use lib.ListN.{length, take, getD}
-use Rattle.rules.specs.Base.{Bytes, Rule, _⇒_, first, every, null, any, between, keep, if_then_else_}
-use Rattle.rules.specs.Cutting.{Segment, field}
-use Rattle.rules.specs.Tables.{Row, Syntax, Entry}
+use Rattle.rules.specs.Base.{Bytes, Rule, _⇒_, first, every, null, all, any, between, keep, listed, member, if_then_else_}
+use Rattle.rules.specs.Cutting.{Segment, field, repetitionIn, delimiters, separatesRepetitions}
+use Rattle.rules.specs.Tables.{Row, Syntax, Entry, Table}
 use Rattle.rules.specs.Elements.{elementCode, repeats, present, isPlace, lacking, lacks, shutsOut, showsValue, longestEcho, echoOf, placeCodes, Finding, found, surplusAt, findingsFrom, findings}
+use Rattle.rules.specs.Segments.{Note, Present, Standing, unknown, unlisted, before, again, later, entryAt, indexFrom, compared, standing, ownCode, moved, skipped, findingsBy, missing, echoed, noted, segmentNote, walk, notesOf}
+use Rattle.rules.specs.Sets.{Set, notesIn, SetReport, setReport}
+use Rattle.rules.specs.Groups.{Group, sets, tableIn, groupReport}
+use Rattle.rules.specs.Damage.{free}
 use Rattle.rules.specs.declared.Delimiters.{Delimiters}
 use Rattle.rules.specs.declared.Relation.{Relation}
 use Rattle.rules.specs.declared.Relation.the-variants.{P, R, E, C, L}
-use Rattle.rules.proofs.Logic.{and-left, and-right, Each, each-append, each-map, each-weaken, Given, every-given}
+use Rattle.rules.specs.declared.Repetition.the-variants.{By}
+use Rattle.rules.proofs.Logic.{and-left, and-right, or-none, numberedIn, first-low, Each, each-none, each-append, each-map, each-weaken, Given, every-given}
+use Rattle.rules.proofs.Accepting.{Sound, report-at}
 
 -- 1. The order.
 module _ {A : Type 0} (Before : A → A → Type 0) where
@@ -240,3 +247,248 @@ places-repeat d e s k w h repeated =
     silent : (cs : List ℕ) → map (found d s r (k + 1)) cs ≡ map (bare r (k + 1)) cs
     silent [] = refl
     silent (c ∷ cs) = rw (repeats-own d r (field s (k + 1)) repeated, unshown c (field s (k + 1)), silent cs)
+
+-- 3. Where it is found.
+module _ (d : Delimiters) (b : ℕ) (by : d .repetition ≡ By b) where
+  separates-one : (c : ℕ) → separatesRepetitions d c ≡ eqb c b
+  unfolding separatesRepetitions any
+  separates-one c = rw by (or-none (eqb c b))
+
+  repeats-one : (e : Bytes) → repeats d e ≡ not (free b e)
+  unfolding any all
+  repeats-one [] = refl
+  repeats-one (c ∷ e) = rw (separates-one c, repeats-one e) (go (eqb c b) (free b e))
+    where
+      go : (x y : Bool) → x || not y ≡ not (not x && y)
+      go true y = refl
+      go false y = refl
+
+-- A value repeats exactly where the separator is one of its bytes. Shut out: a separator of 128 or more that is passed over, and another byte taken for it.
+pub repeats-exactly : (i : Bytes) (b : ℕ) → repetitionIn i ≡ By b → (e : Bytes) → repeats (delimiters i) e ≡ not (free b e)
+unfolding delimiters
+repeats-exactly i b r = repeats-one (delimiters i) b r
+
+-- without it the own code of a value is at most 9
+rest-low : (b : Bool) (rs : List Rule) → b ≡ false → numberedIn 4 9 rs ≡ true → first ((b ⇒ 12) ∷ rs) ≤ 9
+unfolding first
+rest-low true rs e h = absurd (true≢false e)
+rest-low false rs e h = first-low 4 9 rs h
+
+own-low : (d : Delimiters) (r : Row) (e : Bytes) → repeats d e ≡ false → elementCode d r e ≤ 9
+unfolding elementCode
+own-low d r [] h = first-low 0 9 _ refl
+own-low d r (b ∷ e) h = rest-low (repeats d (b ∷ e)) _ h refl
+
+abbrev isTwelve : ℕ → Bool
+isTwelve c = eqb c 12
+
+none-twelve : (cs : List ℕ) → Each (λ c. isTwelve c ≡ false) cs → any isTwelve cs ≡ false
+unfolding any Each
+none-twelve [] h = refl
+none-twelve (c ∷ cs) h = rw (h .0) (none-twelve cs (h .1))
+
+last-twelve : (b : Bool) → any isTwelve (every ((b ⇒ 10) ∷ (true ⇒ 12) ∷ [])) ≡ true
+unfolding every any
+last-twelve true = refl
+last-twelve false = refl
+
+module _ (d : Delimiters) (notes : List Syntax) (s : Segment) where
+  lower-codes : (r : Row) (n : ℕ) → repeats d (field s n) ≡ false → Each (λ c. isTwelve c ≡ false) (placeCodes d notes s r n)
+  unfolding placeCodes
+  lower-codes r n q =
+      let own = elementCode d r (field s n) in
+      let low : (own ≡ 12 → ⊥) = λ e. omega (arith, own-low d r (field s n) q, e) in
+      every-given (λ c. isTwelve c ≡ false) _
+      (λ h. refl, (λ h. refl, (λ h. ne-eqb own 12 low, (λ h. refl, (λ h. absurd (low (eqb-true own 12 h)), tt)))))
+
+  -- code 12 is of the places that hold the separator
+  codes-twelve : (r : Row) (n : ℕ) → any isTwelve (placeCodes d notes s r n) ≡ repeats d (field s n)
+  codes-twelve r n = go (repeats d (field s n)) refl
+    where
+      go : (b : Bool) → repeats d (field s n) ≡ b → any isTwelve (placeCodes d notes s r n) ≡ b
+      go true q = ap (any isTwelve) (repeats-codes d notes s r n q) ∙ last-twelve (shutsOut notes s n)
+      go false q = none-twelve _ (lower-codes r n q)
+
+  keep-any : (p q : Finding → Bool) (fs : List Finding) → any (λ f. p f && q f) fs ≡ any q (keep p fs)
+  unfolding any keep
+  keep-any p q [] = refl
+  keep-any p q (f ∷ fs) = rw (keep-any p q fs) (go (p f))
+    where
+      go : (b : Bool) → (b && q f) || any q (keep p fs) ≡ any q (if b then f ∷ keep p fs else keep p fs)
+      go true = refl
+      go false = refl
+
+  found-any : (r : Row) (n : ℕ) (cs : List ℕ) → any (λ f. isTwelve (f .code)) (map (found d s r n) cs) ≡ any isTwelve cs
+  unfolding any
+  found-any r n [] = refl
+  found-any r n (c ∷ cs) = rw (found-any r n cs)
+
+  rows-twelve : (rs : List Row) (k : ℕ) → k < length rs
+      → any (λ f. eqb (f .place) (k + 1) && eqb (f .code) 12) (findingsFrom d notes s 1 rs) ≡ repeats d (field s (k + 1))
+  rows-twelve [] k h = absurd (not-suc-le-zero h)
+  rows-twelve (r ∷ rs) k h =
+      let row = getD (r ∷ rs) k r in
+      keep-any (λ f. eqb (f .place) (k + 1)) (λ f. isTwelve (f .code)) (findingsFrom d notes s 1 (r ∷ rs))
+      ∙ ap (any (λ (f : Finding). isTwelve (f .code))) (kept d notes s 1 (r ∷ rs) k (k + 1) r h (omega arith))
+      ∙ found-any row (k + 1) (placeCodes d notes s row (k + 1))
+      ∙ codes-twelve row (k + 1)
+
+  within : (n : ℕ) (rs : List Row) → Each (λ f. f .code ≡ 12 → f .place < n + length rs) (findingsFrom d notes s n rs)
+  unfolding findingsFrom Each
+  within n [] = go (ltb n (length s))
+    where
+      go : (b : Bool) → Each (λ f. f .code ≡ 12 → f .place < n + 0) (if b then surplusAt n ∷ [] else [])
+      go true = (λ e. absurd (omega (arith, e)), tt)
+      go false = tt
+  within n (r ∷ rs) =
+      each-append (λ (f : Finding). f .code ≡ 12 → f .place < n + length (r ∷ rs)) (map (found d s r n) codes) later
+      (each-map (λ f. f .code ≡ 12 → f .place < n + length (r ∷ rs)) (found d s r n) codes (here codes))
+      (each-weaken (λ (f : Finding). f .code ≡ 12 → f .place < n + 1 + length rs) _ (λ f h e. omega (arith, h e)) later (within (n + 1) rs))
+    where
+      codes : List ℕ
+      codes = placeCodes d notes s r n
+
+      later : List Finding
+      later = findingsFrom d notes s (n + 1) rs
+
+      here : (cs : List ℕ) → Each (λ c. c ≡ 12 → n < n + length (r ∷ rs)) cs
+      here [] = tt
+      here (c ∷ cs) = (λ e. omega arith, here cs)
+
+-- Code 12 is found at the place of row k of any table exactly where the element there holds the separator. Shut out: code 6 in its place, and 12 for
+-- another byte.
+pub twelve-exactly : (d : Delimiters) (e : Entry) (s : Segment) (k : ℕ) → k < length (e .rows)
+    → any (λ f. eqb (f .place) (k + 1) && eqb (f .code) 12) (findings d e s) ≡ repeats d (field s (k + 1))
+unfolding findings
+twelve-exactly d e s k h = rows-twelve d (e .notes) s (e .rows) k h
+
+-- And it is found at such places only. Shut out: 12 for an element beyond the table.
+pub twelve-within : (d : Delimiters) (e : Entry) (s : Segment) → Each (λ f. f .code ≡ 12 → f .place ≤ length (e .rows)) (findings d e s)
+unfolding findings
+twelve-within d e s =
+    each-weaken (λ (f : Finding). f .code ≡ 12 → f .place < 1 + length (e .rows)) _ (λ f h c. omega (arith, h c)) (findings d e s)
+    (within d (e .notes) s 1 (e .rows))
+
+-- 4. The notes of a set.
+-- the findings of a note stand in their order
+abbrev pub Ordered : Note → Type 0
+Ordered n = InOrder Before (n .findings)
+
+missing-ordered : (n : ℕ) (es : List Entry) → Each Ordered (missing n es)
+unfolding missing Each
+missing-ordered n es = go (keep (λ e. e .mandatory) es)
+  where
+    go : (es : List Entry) → Each Ordered (map (λ e. record { id = e .id; position = n; codes = 3 ∷ []; findings = [] }) es)
+    go [] = tt
+    go (e ∷ es) = (tt, go es)
+
+segment-ordered : (n c : ℕ) (id : Bytes) (fs : List Finding) → InOrder Before fs → Each Ordered (segmentNote n c id fs)
+unfolding segmentNote Each
+segment-ordered n c id fs h = go (every ((not (eqb c 0) ⇒ c) ∷ (not (null fs) ⇒ 8) ∷ []))
+  where
+    go : (cs : List ℕ) → Each Ordered (noted (echoed id) n cs fs)
+    go [] = tt
+    go (c ∷ cs) = (h, tt)
+
+module _ (d : Delimiters) where
+  by-ascends : (t : Table) (st : Standing) (s : Segment) → InOrder Before (findingsBy d t st s)
+  by-ascends t unknown s = tt
+  by-ascends t unlisted s = tt
+  by-ascends t (before k) s = findings-ascend d (entryAt t k) s
+  by-ascends t (again k) s = findings-ascend d (entryAt t k) s
+  by-ascends t (later k) s = findings-ascend d (entryAt t k) s
+
+  walk-ordered : (t : Table) (closed : Bool) (p : Present) (n : ℕ) (ss : List Segment) → Each Ordered (walk d t closed p n ss)
+  unfolding walk
+  walk-ordered t true p n [] = each-none _
+  walk-ordered t false p n [] = missing-ordered n _
+  walk-ordered t closed p n (s ∷ ss) =
+      let st = standing t p (field s 0) in
+      each-append Ordered _ _ (each-append Ordered _ _ (missing-ordered n _) (segment-ordered n _ _ _ (by-ascends t st s)))
+      (walk-ordered t closed (moved p st) (n + 1) ss)
+
+  notes-ordered : (t : Option Table) (s : Set) → Each Ordered (notesIn d t s)
+  unfolding notesOf
+  notes-ordered none s = each-none _
+  notes-ordered (some t) s =
+      each-append Ordered _ _ (segment-ordered 1 0 _ _ (findings-ascend d (entryAt t 0) (s .header))) (walk-ordered t _ _ 2 _)
+
+-- The findings of each note in the report of set k stand by place and then by code. Shut out: a report that sorts them otherwise, or says one twice.
+pub report-ordered : (d : Delimiters) (g : Group) (k : ℕ) (x : Set) (y : SetReport) → k < length (sets g)
+    → Each Ordered (getD (groupReport d g .sets) k y .notes)
+unfolding setReport
+report-ordered d g k x y h = rw (report-at d g k x y h) (notes-ordered d (tableIn (g .header) (getD (sets g) k x)) (getD (sets g) k x))
+
+-- the byte b stands at no place of the entry
+abbrev pub SparedBy : ℕ → Entry → Segment → Type 0
+SparedBy b e s = (n : ℕ) → n < length (e .rows) → free b (field s (n + 1)) ≡ true
+
+-- nor at one of the entry that the table has for the segment
+abbrev pub SparedIn : ℕ → Table → Segment → Type 0
+SparedIn b t s = (k : ℕ) → indexFrom 0 (field s 0) (t .entries) ≡ some k → SparedBy b (entryAt t k) s
+
+both-none : {A : Type 0} (xs ys : List A) → xs ++ ys ≡ [] → (xs ≡ []) × (ys ≡ [])
+both-none [] ys e = (refl, e)
+both-none (x ∷ xs) ys e = absurd (true≢false (ap (λ l. not (null l)) e))
+
+-- a segment without a note has no code of its own and no finding
+unnoted : (n c : ℕ) (id : Bytes) (fs : List Finding) → segmentNote n c id fs ≡ [] → (c ≡ 0) × (fs ≡ [])
+unfolding segmentNote every
+unnoted n c id fs e = go (eqb c 0) refl fs e
+  where
+    go : (b : Bool) → eqb c 0 ≡ b → (fs : List Finding) → noted (echoed id) n (every ((not b ⇒ c) ∷ (not (null fs) ⇒ 8) ∷ [])) fs ≡ [] → (c ≡ 0) × (fs ≡ [])
+    go true q [] e = (eqb-true c 0 q, refl)
+    go true q (f ∷ fs) e = absurd (true≢false (ap (λ l. not (null l)) e))
+    go false q fs e = absurd (true≢false (ap (λ l. not (null l)) e))
+
+module _ (d : Delimiters) (b : ℕ) (by : d .repetition ≡ By b) where
+  -- without a finding there is no 12
+  spared : (e : Entry) (s : Segment) → findings d e s ≡ [] → SparedBy b e s
+  unfolding any
+  spared e s empty n h =
+      let p : Finding → Bool = λ f. eqb (f .place) (n + 1) && eqb (f .code) 12 in
+      let absent : repeats d (field s (n + 1)) ≡ false = sym (twelve-exactly d e s n h) ∙ ap (any p) empty in
+      not-false (free b (field s (n + 1))) (sym (repeats-one d b by (field s (n + 1))) ∙ absent)
+
+  module _ (t : Table) where
+    stood : (p : Present) (s : Segment) → ownCode t p (standing t p (field s 0)) ≡ 0 → findingsBy d t (standing t p (field s 0)) s ≡ [] → SparedIn b t s
+    unfolding standing
+    stood p s c empty k at = go (member (field s 0) (t .directory)) c empty
+      where
+        go : (m : Bool) → let st = if m then compared (p .index) (indexFrom 0 (field s 0) (t .entries)) else unknown in
+            ownCode t p st ≡ 0 → findingsBy d t st s ≡ [] → SparedBy b (entryAt t k) s
+        go false c empty = absurd (omega (arith, c))
+        go true c empty = rest (ltb k (p .index)) (eqb k (p .index)) (rw at at empty)
+          where
+            rest : (x y : Bool) → findingsBy d t (if x then before k else (if y then again k else later k)) s ≡ [] → SparedBy b (entryAt t k) s
+            rest true y e = spared (entryAt t k) s e
+            rest false true e = spared (entryAt t k) s e
+            rest false false e = spared (entryAt t k) s e
+
+    walk-spared : (closed : Bool) (p : Present) (n : ℕ) (ss : List Segment) → walk d t closed p n ss ≡ [] → Each (SparedIn b t) ss
+    unfolding walk Each
+    walk-spared closed p n [] e = tt
+    walk-spared closed p n (s ∷ ss) e =
+        let st = standing t p (field s 0) in
+        let own = segmentNote n (ownCode t p st) (field s 0) (findingsBy d t st s) in
+        let parts = both-none (missing n (skipped t p st) ++ own) (walk d t closed (moved p st) (n + 1) ss) e in
+        let here = unnoted n _ _ _ (both-none (missing n (skipped t p st)) own (parts .0) .1) in
+        (stood p s (here .0) (here .1), walk-spared closed (moved p st) (n + 1) ss (parts .1))
+
+-- a set whose elements at the places of its table are without the byte b: those of its ST, and those of each segment after it
+pub record Unrepeated (b : ℕ) (t : Table) (s : Set) : Type 0 where
+  pub header : SparedBy b (entryAt t 0) (s .header)
+  pub after : Each (SparedIn b t) (s .body ++ listed (s .trailer))
+
+-- Of an accepted set no element at a place of its table holds the separator. Shut out: a program that accepts a repeated element.
+pub sound-unrepeated : (i : Bytes) (b : ℕ) → repetitionIn i ≡ By b → (gs : Segment) (earlier : List Set) (s : Set)
+    → (h : Sound (delimiters i) gs earlier s) → Unrepeated b (h .table) s
+unfolding notesOf delimiters
+sound-unrepeated i b r gs earlier s h =
+    let d = delimiters i in
+    let t = h .table in
+    let parts = both-none (segmentNote 1 0 (field (s .header) 0) (findings d (entryAt t 0) (s .header))) _ (h .unnoted) in
+    record {
+      header = spared d b r (entryAt t 0) (s .header) (unnoted 1 0 _ _ (parts .0) .1);
+      after = walk-spared d b r t _ _ 2 _ (parts .1);
+    }

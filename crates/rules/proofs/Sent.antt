@@ -257,27 +257,32 @@ module _ (d : Delimiters) (p : all plain (marks d) ≡ true) where
       each-weaken (Points d 1 (segmentsOf s)) Quoted
       (λ n at. each-weaken _ (λ (f : Finding). clean (f .echo)) (λ f shown. shown .clean) (n .findings) (at .shows)) (notesIn d t s) (notes-point d t s)
 
+  st-clean : (st : Segment) → goodST d st ≡ true → clean (field st 1) × clean (field st 2)
+  unfolding goodST
+  st-clean st e =
+      let st01 = digits 3 3 (field st 1) in
+      let st02 = text d 4 9 (field st 2) in
+      (digits-clean 3 3 (field st 1) (and-left st01 st02 e), text-clean 4 9 (field st 2) (and-right st01 st02 e))
+
   reports-writable : (gs : Segment) (earlier : List Bytes) (ss : List Set) → all (λ s. goodST d (s .header)) ss ≡ true
       → Each Writable (setReports d (tableIn gs) earlier ss)
-  unfolding setReports setReport goodST Each
+  unfolding setReports setReport Each
   reports-writable gs earlier [] e = tt
   reports-writable gs earlier (s ∷ ss) e =
       let good : Set → Bool = λ s. goodST d (s .header) in
-      let st01 = digits 3 3 (field (s .header) 1) in
-      let st02 = text d 4 9 (controlOf s) in
-      let here = all-head good s ss e in (
+      let here = st-clean (s .header) (all-head good s ss e) in (
         record {
-          st01 = digits-clean 3 3 (field (s .header) 1) (and-left st01 st02 here);
-          st02 = text-clean 4 9 (controlOf s) (and-right st01 st02 here);
+          st01 = here .0;
+          st02 = here .1;
           titles = notes-titled (tableIn gs s) s (table-titled gs s);
           quotes = notes-quoted (tableIn gs s) s;
         },
         reports-writable gs (controlOf s ∷ earlier) ss (all-tail good s ss e),
       )
 
-  -- GS of a group that is not refused: GS01, GS02, GS03 and GS06
+  -- GS of a group that is not refused: GS01, GS02, GS03, GS06, GS07 and GS08
   abbrev CleanHeader : Segment → Type 0
-  CleanHeader gs = clean (field gs 1) × clean (field gs 2) × clean (field gs 3) × clean (field gs 6)
+  CleanHeader gs = clean (field gs 1) × clean (field gs 2) × clean (field gs 3) × clean (field gs 6) × clean (field gs 7) × clean (field gs 8)
 
   header-clean : (g : Group) → first (groupRules d g) ≡ 0 → CleanHeader (g .header)
   unfolding groupRules headerRules answerRules setRules goodGS
@@ -291,20 +296,29 @@ module _ (d : Delimiters) (p : all plain (marks d) ≡ true) where
       let gs05 = isTime (field gs 5) in
       let gs06 = digits 1 9 (field gs 6) in
       let gs07 = text d 1 2 (field gs 7) in
+      let gs08 = text d 1 12 (field gs 8) in
       let names = two && gs01 && gs02 && gs03 in
       let numbers = names && gs04 && gs05 && gs06 in
       let good = not-false (goodGS d gs) (silent (groupRules d g) tt e .0) in
-      let e6 = and-left numbers gs07 (and-left (numbers && gs07) (text d 1 12 (field gs 8)) good) in
+      let e7 = and-left (numbers && gs07) gs08 good in
+      let e6 = and-left numbers gs07 e7 in
       let e3 = and-left names gs04 (and-left (names && gs04) gs05 (and-left (names && gs04 && gs05) gs06 e6)) in
       let e2 = and-left (two && gs01 && gs02) gs03 e3 in (
         caps-clean (field gs 1) (and-right two gs01 (and-left (two && gs01) gs02 e2)),
         text-clean 2 15 (field gs 2) (and-right (two && gs01) gs02 e2),
         text-clean 2 15 (field gs 3) (and-right (two && gs01 && gs02) gs03 e3),
         digits-clean 1 9 (field gs 6) (and-right (names && gs04 && gs05) gs06 e6),
+        text-clean 1 2 (field gs 7) (and-right numbers gs07 e7),
+        text-clean 1 12 (field gs 8) (and-right (numbers && gs07) gs08 good),
       )
 
+  -- and its ST segments
+  headers-good : (g : Group) → first (groupRules d g) ≡ 0 → all (λ s. goodST d (s .header)) (sets g) ≡ true
+  unfolding groupRules headerRules answerRules setRules
+  headers-good g e = not-false (all (λ s. goodST d (s .header)) (sets g)) (silent (groupRules d g) tt e .1 .1 .1 .1 .0)
+
   group-writable : (g : Group) → first (groupRules d g) ≡ 0 → WritableGroup (groupReport d g)
-  unfolding groupRules headerRules answerRules setRules groupReport
+  unfolding groupReport
   group-writable g e =
       let header = header-clean g e in
       let rs = setReports d (tableIn (g .header)) [] (sets g) in
@@ -314,9 +328,7 @@ module _ (d : Delimiters) (p : all plain (marks d) ≡ true) where
         verdict =
             either clean (not (null (groupCodes g)) || eqb (acceptedIn rs) 0) (fixed (ascii "R") refl)
             (either clean (eqb (acceptedIn rs) (length rs)) (fixed (ascii "A") refl) (fixed (ascii "P") refl));
-        sets =
-            reports-writable (g .header) [] (sets g)
-            (not-false (all (λ s. goodST d (s .header)) (sets g)) (silent (groupRules d g) tt e .1 .1 .1 .1 .0));
+        sets = reports-writable (g .header) [] (sets g) (headers-good g e);
       }
 
   groups-writable : (gs : List Group) → Each (λ g. first (groupRules d g) ≡ 0) gs → Each WritableGroup (map (groupReport d) gs)
@@ -484,6 +496,36 @@ module _ (d : Delimiters) where
       apart : (c : ℕ) → isSendable d c ≡ true → not (eqb c b) ≡ true
       apart c h = rw (ne-eqb c b (λ q. false≢true (sym (separator-barred m b e) ∙ ap (isSendable d) (sym q) ∙ h)))
 
+  clean-free : goodMarks (marks d) ≡ true → (b : ℕ) → d .repetition ≡ By b → (bs : Bytes) → all (valid d) bs ≡ true → free b bs ≡ true
+  clean-free m b e bs h = separator-free m b e bs (all-weaken (valid d) (isSendable d) (λ c v. rw v) bs h)
+
+-- a group without the byte b in the texts of its GS and in its control numbers ST02
+pub record Without (b : ℕ) (g : Group) : Type 0 where
+  pub gs02 : free b (field (g .header) 2) ≡ true
+  pub gs03 : free b (field (g .header) 3) ≡ true
+  pub gs07 : free b (field (g .header) 7) ≡ true
+  pub gs08 : free b (field (g .header) 8) ≡ true
+  pub st02s : Each (λ s. free b (field (s .header) 2) ≡ true) (sets g)
+
+module _ (d : Delimiters) (m : goodMarks (marks d) ≡ true) (p : all plain (marks d) ≡ true) (b : ℕ) (e : d .repetition ≡ By b) where
+  sets-without : (ss : List Set) → all (λ s. goodST d (s .header)) ss ≡ true → Each (λ s. free b (field (s .header) 2) ≡ true) ss
+  unfolding Each
+  sets-without [] h = tt
+  sets-without (s ∷ ss) h =
+      let good : Set → Bool = λ s. goodST d (s .header) in
+      (clean-free d m b e (field (s .header) 2) (st-clean d p (s .header) (all-head good s ss h) .1), sets-without ss (all-tail good s ss h))
+
+  group-without : (g : Group) → first (groupRules d g) ≡ 0 → Without b g
+  group-without g h =
+      let header = header-clean d p g h in
+      record {
+        gs02 = clean-free d m b e (field (g .header) 2) (header .1);
+        gs03 = clean-free d m b e (field (g .header) 3) (header .2);
+        gs07 = clean-free d m b e (field (g .header) 7) (header .4);
+        gs08 = clean-free d m b e (field (g .header) 8) (header .5);
+        st02s = sets-without (sets g) (headers-good d p g h);
+      }
+
 -- 7. What is sent.
 -- what 4 and 5 leave: the marks are plain, and the fields of ISA that are text are valid
 marks-plain : (ms : List ℕ) → goodMarks ms ≡ true → all plain ms ≡ true
@@ -533,6 +575,14 @@ module _ (i : Bytes) (call : Call) (e : refusal i call ≡ 0) where
   pub separator-unsent : (b : ℕ) → repetitionIn i ≡ By b → free b (response i call) ≡ true
   unfolding delimiters
   separator-unsent b r = separator-free (delimiters i) (c .passed .marked) b r (response i call) sent-sendable
+
+  -- It stands in no text of a GS and in no ST02 of the groups that are answered. Shut out: a program that looks at those of the first group only.
+  pub separator-unadmitted : (b : ℕ) → repetitionIn i ≡ By b → Each (Without b) (groupsIn i)
+  unfolding delimiters
+  separator-unadmitted b r =
+      let d = delimiters i in
+      each-weaken (λ (g : Group). first (groupRules d g) ≡ 0) (Without b)
+      (group-without d (c .passed .marked) (marks-plain (marks d) (c .passed .marked)) b r) (groupsIn i) (c .groups)
 
 module _ (i : Bytes) (call : Call) (e : interchangeRefusal i call ≡ 0) where
   -- 4 and 5 pass

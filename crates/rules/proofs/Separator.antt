@@ -1,6 +1,6 @@
 -- Change request 9: what checks 2 to 5 ask of a repetition separator, by the same interchange with `U` in its place.
 use mathlib.Core.Path.{_≡_, refl, sym, ap, _∙_}
-use mathlib.Core.Bool.{Bool, true, false, _&&_, _||_, not, and-true}
+use mathlib.Core.Bool.{Bool, true, false, _&&_, _||_, not, and-true, false≢true}
 use mathlib.Core.Logic.{_↔_}
 use mathlib.Core.List.{List, [], _∷_, _++_}
 use Prim.Native.Nat.{ℕ, _+_, _≤_, _<_}
@@ -9,7 +9,7 @@ use borrow.Author.Tests.{not-true, not-false, eqb-true, eqb-false, leb-true, ltb
 use lib.Dec.{leb, ltb, eqb, lit<, lit≤}
 use lib.ListN.{length, take, drop, getD, set, length-set}
 use lib.Seq.{slice, length-take-le, slice-empty, split-at, getD-take, getD-set-same, getD-set-other, take-set-le, take-set-lt, drop-set-lt}
-use Rattle.rules.specs.Base.{Bytes, ascii, same, member, between, all, any, first}
+use Rattle.rules.specs.Base.{Bytes, _⇒_, ascii, same, member, between, all, any, first, if_then_else_}
 use Rattle.rules.specs.Cutting.{Segment, field, separators, fieldsAt, isa, repetitionIn, delimiters, marks, valid}
 use Rattle.rules.specs.Numbers.{digits}
 use Rattle.rules.specs.Refusals.{hasISA, plain, distinct, goodMarks, textFields, goodISA, headRules}
@@ -19,7 +19,7 @@ use Rattle.rules.specs.declared.Repetition.{Repetition}
 use Rattle.rules.specs.declared.Repetition.the-variants.{Nothing, By}
 use Rattle.rules.proofs.Logic.{and-left, and-right, all-head, all-tail, all-cons, all-append, all-both, all-left, all-right, all-take, all-drop, all-weaken, all-join, all-at, any-append, silent}
 use Rattle.rules.proofs.Cuts.{plain-other, common-valid}
-use Rattle.rules.proofs.Envelope.{isa-head, covered, isa11-byte, isa-long}
+use Rattle.rules.proofs.Envelope.{isa-head, covered, isa11-byte, isa-long, Header, header}
 use Rattle.rules.proofs.Unrepeated.{unused-U}
 
 -- ISA11 is byte 82, and `U` is 85
@@ -72,11 +72,18 @@ module _ (i : Bytes) where
       let u = isa11-byte (withU i) (rw (length-set i 82 85) l) ∙ ap (λ (b : ℕ). b ∷ []) (getD-set-same i 82 85 0 (omega (arith, l))) in
       split-at s 11 [] (isa-long (withU i)) ∙ rw (u, before-kept, after-kept)
 
-  isa13-kept : field (isa (withU i)) 13 ≡ field (isa i) 13
+  pub isa-before : (n : ℕ) → n < 11 → field (isa (withU i)) n ≡ field (isa i) n
+  isa-before n h = sym (getD-take 11 (isa (withU i)) n [] h) ∙ ap (λ (s : Segment). field s n) before-kept ∙ getD-take 11 (isa i) n [] h
+
+  pub isa13-kept : field (isa (withU i)) 13 ≡ field (isa i) 13
   unfolding isa separators fieldsAt
   isa13-kept = ap (λ (s : Segment). field s 1) after-kept
 
-  isa15-kept : field (isa (withU i)) 15 ≡ field (isa i) 15
+  pub isa14-kept : field (isa (withU i)) 14 ≡ field (isa i) 14
+  unfolding isa separators fieldsAt
+  isa14-kept = ap (λ (s : Segment). field s 2) after-kept
+
+  pub isa15-kept : field (isa (withU i)) 15 ≡ field (isa i) 15
   unfolding isa separators fieldsAt
   isa15-kept = ap (λ (s : Segment). field s 3) after-kept
 
@@ -89,7 +96,7 @@ module _ (i : Bytes) where
   by-kept =
       rw (getD-set-other i 82 3 85 0 (omega arith), getD-set-other i 82 104 85 0 (omega arith), getD-set-other i 82 105 85 0 (omega arith))
 
-  by-U : 106 ≤ length i → delimiters (withU i) ≡ by i Nothing
+  pub by-U : 106 ≤ length i → delimiters (withU i) ≡ by i Nothing
   unfolding delimiters
   by-U l = rw (unused-U (withU i) (getD-set-same i 82 85 0 (omega (arith, l)))) by-kept
 
@@ -185,6 +192,14 @@ module _ (i : Bytes) where
         isa13 = and-right texts nine (and-left (texts && nine) last headed);
         isa15 = and-right (texts && nine) last headed;
       }
+
+  -- what they leave of the 106 bytes
+  pub header-of : first (headRules i) ≡ 0 → Header i
+  unfolding headRules
+  header-of e =
+      let r = silent (headRules i) tt e in
+      header i (not-false (between 106 65536 (length i)) (r .0)) (not-false (hasISA i) (r .1 .0)) (not-false (goodMarks (marks (delimiters i))) (r .1 .1 .0))
+      (not-false (goodISA (delimiters i) (isa i)) (r .1 .1 .1 .0))
 
   passes : Heads i (marks (delimiters i)) (valid (delimiters i)) (textFields (delimiters i .repetition) (isa i)) → first (headRules i) ≡ 0
   unfolding headRules goodISA first
@@ -314,6 +329,11 @@ module _ (i : Bytes) (b : ℕ) (separates : repetitionIn i ≡ By b) where
         isa15 = ap isP (sym (isa15-kept i)) ∙ h .isa15;
       }
 
+  -- where they pass it with `U`, the separator's own two tests decide
+  own-tests : Former → first (headRules i) ≡ first ((not (plain b && free b three) ⇒ 4) ∷ (not (goodISA (by i (By b)) (isa i)) ⇒ 5) ∷ [])
+  unfolding headRules first
+  own-tests f = rw (with-b, ← length-set i 82 85, f .sized, ← hasISA-kept i, f .opened, marks-good, f .marked)
+
 -- Checks 2 to 5 pass an interchange with a repetition separator exactly when they pass it with `U` in the separator's place, and the separator is no letter,
 -- digit or space and stands at no other byte of ISA, so that it is none of the other delimiters either. Shut out: a separator that is not held to check 4,
 -- one that may stand in a field of ISA, and one that check 5 takes for text.
@@ -323,3 +343,27 @@ head-with i b e = (
   λ h. let r = apart i b e (own i b e h) in (by-former i b e (r .0), r .1),
   λ h. by-own i b e (joined i b e (former i b e (h .0)) (h .1)),
 )
+
+-- Where they pass it with `U`, they give 4 exactly where the separator is a letter, a digit, a space or one of the other three delimiters; else 5 where it
+-- stands at another byte of ISA; else nothing. Shut out: another number for such a separator, and 5 before 4.
+pub head-number : (i : Bytes) (b : ℕ) → repetitionIn i ≡ By b → first (headRules (withU i)) ≡ 0
+    → first (headRules i)
+    ≡ (if not (plain b && free b (marks (delimiters (withU i)))) then 4 else (if free b (take 106 (withU i)) then 0 else 5))
+unfolding first
+head-number i b e h =
+    let f = former i b e h in
+    let single = plain b && free b (three i b e) in
+    let good = goodISA (by i (By b)) (isa i) in
+    let number = own-tests i b e f in
+    rw (by-U i (long-U i b e (f .sized)))
+    (number ∙ go single good (free b (take 106 (withU i))) (λ z. head-with i b e .0 (number ∙ z) .1 .1)
+    (λ s c. sym number ∙ head-with i b e .1 (h, (and-left (plain b) (free b (three i b e)) s, c))))
+  where
+    go : (single good clear : Bool) → (first ((not single ⇒ 4) ∷ (not good ⇒ 5) ∷ []) ≡ 0 → clear ≡ true)
+        → (single ≡ true → clear ≡ true → first ((not single ⇒ 4) ∷ (not good ⇒ 5) ∷ []) ≡ 0)
+        → first ((not single ⇒ 4) ∷ (not good ⇒ 5) ∷ []) ≡ (if not single then 4 else (if clear then 0 else 5))
+    go false good clear p q = refl
+    go true true true p q = refl
+    go true true false p q = absurd (false≢true (p refl))
+    go true false true p q = q refl refl
+    go true false false p q = refl

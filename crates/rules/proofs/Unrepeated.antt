@@ -272,7 +272,7 @@ module _ (d : Delimiters) (unused : d .repetition ≡ Nothing) where
   unfolding text formerText
   same-text lo hi bs = rw same-valid
 
-  no-repeats : (e : Bytes) → repeats d e ≡ false
+  pub no-repeats : (e : Bytes) → repeats d e ≡ false
   unfolding any separatesRepetitions
   no-repeats [] = refl
   no-repeats (b ∷ e) = rw (no-repeats e, unused)

@@ -204,7 +204,7 @@ pub fn is_time(s: &[u8]) -> bool
     s.len() == 4 || value(&s[4..6]) <= 59
 }
 
-// A valid byte: 32 to 126 and no delimiter. The range is asked first: more than half of all bytes are out of it.
+// A valid byte: 32 to 126 and no delimiter. The range is asked first: more than half of the 256 bytes are out of it.
 pub fn is_valid(b: u8, d: Delimiters) -> bool
     ensures { λ r. ⌜ r ≡ valid d b ⌝ }
 {
