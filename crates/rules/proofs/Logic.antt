@@ -103,6 +103,12 @@ module _ {A : Type 0} (p : A → Bool) where
   all-join q r h (x ∷ xs) e f = rw (h x (all-head x xs e) (and-left (q x) (all q xs) f)) (all-join q r h xs (all-tail x xs e) (and-right (q x) (all q xs) f))
 
 -- what all pass, the one at k passes
+-- what holds of all, and of what stands for one that is missing, holds at every place
+pub all-anywhere : {A : Type 0} (p : A → Bool) (d : A) → p d ≡ true → (xs : List A) → all p xs ≡ true → (k : ℕ) → p (getD xs k d) ≡ true
+all-anywhere p d z [] e k = z
+all-anywhere p d z (x ∷ xs) e zero = all-head p x xs e
+all-anywhere p d z (x ∷ xs) e (suc k) = all-anywhere p d z xs (all-tail p x xs e) k
+
 pub all-at : {A : Type 0} (p : A → Bool) (xs : List A) (d : A) (k : ℕ) → all p xs ≡ true → k < length xs → p (getD xs k d) ≡ true
 all-at p [] d k e h = absurd (not-suc-le-zero h)
 all-at p (x ∷ xs) d zero e h = all-head p x xs e

@@ -25,7 +25,7 @@ use Rattle.rules.specs.declared.Call.{Call}
 use Rattle.rules.specs.declared.Delimiters.{Delimiters}
 use Rattle.rules.specs.declared.Repetition.{Repetition}
 use Rattle.rules.specs.declared.Repetition.the-variants.{Nothing, By}
-use Rattle.rules.proofs.Logic.{and-left, and-right, all-head, all-tail, all-cons, all-append, all-left, all-right, all-take, all-drop, all-weaken, silent, Each, each-none, each-append, each-weaken, each-all}
+use Rattle.rules.proofs.Logic.{and-left, and-right, all-head, all-tail, all-cons, all-append, all-left, all-right, all-take, all-drop, all-anywhere, all-weaken, silent, Each, each-none, each-append, each-weaken, each-all}
 use Rattle.rules.proofs.Lengths.{either}
 use Rattle.rules.proofs.Echo.{Points, notes-point}
 use Rattle.rules.proofs.Cuts.{valid-apart, digit-common, common-valid}
@@ -339,9 +339,7 @@ module _ (d : Delimiters) (p : all plain (marks d) ≡ true) where
   -- 5. The envelope.
   field-clean : (ss : List Bytes) → all (all (valid d)) ss ≡ true → (k : ℕ) → clean (field ss k)
   unfolding all
-  field-clean [] h k = refl
-  field-clean (s ∷ ss) h zero = and-left (all (valid d) s) (all (all (valid d)) ss) h
-  field-clean (s ∷ ss) h (suc k) = field-clean ss (and-right (all (valid d) s) (all (all (valid d)) ss) h) k
+  field-clean ss h k = all-anywhere (all (valid d)) [] refl ss h k
 
   -- the fields of ISA but ISA11, whatever it is
   module _ (s : Segment) (texts : all (all (valid d)) (textFields (d .repetition) s) ≡ true) where

@@ -24,7 +24,7 @@ use Rattle.rules.specs.Damage.{free}
 use Rattle.rules.specs.declared.Call.{Call}
 use Rattle.rules.specs.declared.Delimiters.{Delimiters}
 use Rattle.rules.specs.declared.Repetition.the-variants.{Nothing, By}
-use Rattle.rules.proofs.Logic.{all-head, all-tail, all-cons, all-append, silent, Each, each-map, each-weaken}
+use Rattle.rules.proofs.Logic.{all-head, all-tail, all-cons, all-append, all-anywhere, silent, Each, each-map, each-weaken}
 use Rattle.rules.proofs.Cuts.{segments-other}
 use Rattle.rules.proofs.Facts.{firstOf, refusal-blocks}
 use Rattle.rules.proofs.Envelope.{rest-cut}
@@ -43,9 +43,7 @@ module _ (b : ℕ) where
 
   field-free : (s : Segment) (n : ℕ) → isFree s ≡ true → free b (field s n) ≡ true
   unfolding all
-  field-free [] n e = refl
-  field-free (f ∷ s) zero e = all-head (free b) f s e
-  field-free (f ∷ s) (suc n) e = field-free s n (all-tail (free b) f s e)
+  field-free s n e = all-anywhere (free b) [] refl s e n
 
   front-free : (ss : List Segment) → all isFree ss ≡ true → all isFree (front ss) ≡ true
   unfolding front all
