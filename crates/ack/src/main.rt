@@ -1,3 +1,4 @@
+#![tactic(auto)]
 // The program `ack`: it answers an interchange with the 997.
 use exchange::Acknowledgment;
 

@@ -1,3 +1,4 @@
+#![tactic(auto)]
 // The acknowledgment of an interchange: a 997 for each of its groups, or the number of a refusal.
 ghost use Rattle.rules.specs.Answers.{functional_acknowledgment, Allowed};
 

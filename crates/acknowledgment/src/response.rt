@@ -15,7 +15,7 @@ use refusals::GroupCheck;
 use rules::{Answer, Call, Delimiters};
 
 // What a look at all groups comes to: how long their 997s are together, or the number of the first refusal.
-#[derive(Drop)]
+#[derive(Clone, Copy)]
 enum GroupsSurvey {
     Sound(usize),
     Refused(u8),

@@ -44,7 +44,7 @@ pub const GROUP_END: u8 = 5;
 const ACCEPTANCE: usize = 15;
 
 // How the sets of a group are read: by which delimiters, and by which tables.
-#[derive(Drop)]
+#[derive(Clone, Copy)]
 pub struct Reading {
     pub delimiters: Delimiters,
     pub scope: Scope,
@@ -52,7 +52,7 @@ pub struct Reading {
 
 // A set that was looked at: its place, whether it showed that nothing is told of the set, and whether the set has no code where its control number
 // was not used before.
-#[derive(Drop)]
+#[derive(Clone, Copy)]
 pub struct SeenSet {
     pub place: SetAt,
     pub quiet: bool,
@@ -61,7 +61,7 @@ pub struct SeenSet {
 
 // A set as received: where it stands, where its table stands, whether an earlier set has its control number, and whether it is known that nothing
 // is told of it.
-#[derive(Drop)]
+#[derive(Clone, Copy)]
 pub struct ReceivedSet {
     pub place: SetAt,
     pub table: TableAt,
@@ -70,7 +70,7 @@ pub struct ReceivedSet {
 }
 
 // A set that was looked at: where it starts, and its mark.
-#[derive(Drop)]
+#[derive(Clone, Copy)]
 pub struct MarkedSet {
     pub start: usize,
     pub mark: u8,

@@ -31,7 +31,7 @@ pub const FEW_ENTRIES: usize = SHORT / 12 + rules::Interchange::MOST_GROUPS as u
 pub const FEW_LINKS: usize = register::BUCKETS + 4 * FEW_ENTRIES;
 
 // How many sets there are, and what the blocks of all come to.
-#[derive(Drop)]
+#[derive(Clone, Copy)]
 pub struct Survey {
     pub sets: Tally,
     pub blocks: Told,
@@ -75,7 +75,7 @@ fn mark_of(repeated: bool, set: SeenSet) -> u8
 }
 
 // A set as surveyed: its mark, what its block comes to, and where it ends.
-#[derive(Drop)]
+#[derive(Clone, Copy)]
 struct SurveyedSet {
     mark: u8,
     block: Told,

@@ -22,14 +22,14 @@ use rules::Delimiters;
 use verdicts::{Summary, Tally};
 
 // What a look at a group tells: how many entries it has, and how long its 997 is.
-#[derive(Drop)]
+#[derive(Clone, Copy)]
 pub struct GroupSurvey {
     pub entries: usize,
     pub length: usize,
 }
 
 // Where the next group starts, its first entry, the number of its 997, and what was written before that.
-#[derive(Drop)]
+#[derive(Clone, Copy)]
 pub struct Progress {
     pub at: usize,
     pub entry: usize,

@@ -1,3 +1,4 @@
+#![tactic(auto)]
 // The segments of the response's transaction set, ST to SE, all but AK3 and AK4: each a row of pieces after n bytes of a lent buffer.
 ghost use Rattle.std.specs.Prelude.{◌≡◌, [], ◌∷◌, ◌++◌, map, ◌≤◌, length};
 ghost use Rattle.rules.specs.Base.{ascii, null, if◌then◌else◌};

@@ -1,3 +1,4 @@
+#![tactic(auto)]
 // Refusal 1: the numbers that a caller gives with an interchange.
 ghost use Rattle.std.specs.Prelude.{◌≡◌, ◌&&◌, ◌/◌, ◌%◌, leb};
 ghost use Rattle.rules.specs.Base.{between, first};

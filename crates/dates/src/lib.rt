@@ -1,3 +1,4 @@
+#![tactic(auto)]
 // Rule DT: whether a number or eight digits are a day of the calendar.
 ghost use Rattle.std.specs.Prelude.{◌≡◌, ◌≤◌};
 ghost use Rattle.rules.specs.Numbers.{leap, month_length, is_day, is_date};

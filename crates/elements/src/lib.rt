@@ -1,3 +1,4 @@
+#![tactic(auto)]
 // Notes on elements: the code of a value by its row, the syntax notes, and the findings of a segment, one place after the other.
 ghost use Rattle.std.specs.Prelude.{◌≡◌, ◌+◌, ◌<◌, min, max, true, not, ◌&&◌, [], ◌∷◌, drop, ◌==◌, slice_index, slice_index_or};
 ghost use Rattle.rules.specs.Base.{◌⇒◌, first, any, all};
@@ -398,7 +399,7 @@ fn note_code(s: &[u8], e: u8, guide: &[[u16; 6]], from: usize, n: usize, present
 
 // Where the check of a segment has come to: the next row, the place of the next element, and where the field before it ends. The notes of its
 // entry stand from row `notes` on.
-#[derive(Drop)]
+#[derive(Clone, Copy)]
 pub struct Cursor {
     pub notes: usize,
     pub row: usize,
@@ -443,7 +444,7 @@ fn beginning(value: Span) -> Span
 }
 
 // The codes of a place: that of its value and that of the notes, each 0 for none; and where the value lies.
-#[derive(Drop)]
+#[derive(Clone, Copy)]
 pub struct PlaceCodes {
     pub place: usize,
     pub reference: u16,
@@ -496,7 +497,7 @@ impl PlaceCodes {
 }
 
 // What a check finds next: the codes of a place that has any, and where it goes on.
-#[derive(Drop)]
+#[derive(Clone, Copy)]
 pub enum Found {
     Codes(PlaceCodes, Cursor),
     Nothing,
@@ -562,7 +563,7 @@ fn field_after(s: &[u8], e: u8, end: usize) -> Span
 }
 
 // Which places of a segment are present: a bit for each up to place 63, and the bit of the next place, which is 0 past them.
-#[derive(Drop)]
+#[derive(Clone, Copy)]
 pub struct Marks {
     pub bits: usize,
     pub next: usize,

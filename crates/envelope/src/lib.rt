@@ -1,3 +1,4 @@
+#![tactic(auto)]
 // The envelope of an interchange: where its groups and IEA lie (refusal 7), and whether IEA is right (refusal 8).
 ghost use Rattle.std.specs.Prelude.{◌≡◌, ◌+◌, drop};
 ghost use Rattle.rules.specs.Cutting.{field, is_named, pieces, split};
@@ -15,7 +16,7 @@ const IEA01_DIGITS: usize = 5;
 // The place of a group, as offsets: each part starts at one and ends before the other.
 // The body holds the terminator of its last segment. GE starts where the body ends; where it is missing, its part is empty.
 // The next group, or IEA, is due at `next`.
-#[derive(Drop)]
+#[derive(Clone, Copy)]
 pub struct GroupAt {
     pub gs: usize,
     pub gs_end: usize,
@@ -27,14 +28,14 @@ pub struct GroupAt {
 }
 
 // What stands where a group is due.
-#[derive(Drop)]
+#[derive(Clone, Copy)]
 pub enum NextGroup {
     Found(GroupAt),
     None,
 }
 
 // The place of an interchange's first group, the number of its groups, and the place of its IEA.
-#[derive(Drop)]
+#[derive(Clone, Copy)]
 pub struct Envelope {
     pub first: GroupAt,
     pub groups: u64,
@@ -43,14 +44,14 @@ pub struct Envelope {
 }
 
 // An interchange has its envelope, or refusal 7 is due.
-#[derive(Drop)]
+#[derive(Clone, Copy)]
 pub enum Enveloped {
     Whole(Envelope),
     Broken,
 }
 
 // What is wrong with IEA: the first that is.
-#[derive(Drop)]
+#[derive(Clone, Copy)]
 pub enum TrailerFault {
     None,
     NotTwoElements,
@@ -59,7 +60,7 @@ pub enum TrailerFault {
 }
 
 // What stands where the body ends: GE up to `end`, or nothing. `next` is where the next group, or IEA, is due.
-#[derive(Drop)]
+#[derive(Clone, Copy)]
 struct Trailer {
     end: usize,
     closed: bool,
@@ -67,7 +68,7 @@ struct Trailer {
 }
 
 // The groups end: so many, and IEA is due there. Or there are more than may be.
-#[derive(Drop)]
+#[derive(Clone, Copy)]
 enum GroupsEnd {
     At(u64, usize),
     TooMany,

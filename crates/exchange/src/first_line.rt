@@ -16,7 +16,7 @@ const TIME_END: usize = 13;
 const CONTROL: usize = 14;
 
 // What the first line says: the caller's numbers, and where the interchange starts.
-#[derive(Drop)]
+#[derive(Clone, Copy)]
 pub enum FirstLine {
     Numbers(Call, usize),
     Bad,

@@ -1,3 +1,4 @@
+#![tactic(auto)]
 // All that a program does, on slices: the first line, and the answer as it is printed.
 mod first_line;
 mod printing;
@@ -10,7 +11,7 @@ ghost use Rattle.exchange.specs.Replies.{replies_of};
 use first_line::FirstLine;
 
 // Which acknowledgment is asked for: the 997, or the interchange with TA1.
-#[derive(Drop)]
+#[derive(Clone, Copy)]
 pub enum Acknowledgment {
     Functional,
     Interchange,

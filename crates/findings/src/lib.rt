@@ -1,3 +1,4 @@
+#![tactic(auto)]
 // The walk of a set through its table: a cursor goes in by value, and how the next segment stands comes back with the next cursor.
 ghost use Rattle.std.specs.Prelude.{◌≡◌, ◌+◌, ◌<◌, ltb};
 ghost use Rattle.rules.specs.Base.{if◌then◌else◌};
@@ -8,14 +9,14 @@ ghost use Rattle.findings.specs.declared.Standing.TheVariants as standing;
 use rules::{Delimiters, SegmentCode};
 
 // The present entry: its row, and how often it was used.
-#[derive(Drop)]
+#[derive(Clone, Copy)]
 pub struct Present {
     pub row: usize,
     pub used: usize,
 }
 
 // Where a walk has come to: where the next segment starts, its position, and the present entry. The segment at 0 is the header.
-#[derive(Drop)]
+#[derive(Clone, Copy)]
 pub struct Walk {
     pub at: usize,
     pub position: usize,
@@ -23,7 +24,7 @@ pub struct Walk {
 }
 
 // The rows that a segment at a position passes over: from one row on and before another. The mandatory entries among them are missing.
-#[derive(Drop)]
+#[derive(Clone, Copy)]
 pub struct Passed {
     pub from: usize,
     pub end: usize,
@@ -32,7 +33,7 @@ pub struct Passed {
 
 // A segment: from where to where it lies, the code of its standing, 0 for none, the row of the entry by which its elements are checked, and
 // what it passes over.
-#[derive(Drop)]
+#[derive(Clone, Copy)]
 pub struct Taken {
     pub start: usize,
     pub end: usize,
@@ -42,7 +43,7 @@ pub struct Taken {
 }
 
 // What one step of a walk comes to: a segment, the rows that a missing trailer passes over, or nothing more.
-#[derive(Drop)]
+#[derive(Clone, Copy)]
 pub enum Step {
     Segment(Taken, Walk),
     Trailer(Passed),
@@ -50,7 +51,7 @@ pub enum Step {
 }
 
 // How a segment stands to the table and the present entry; the number is the row of its own.
-#[derive(Drop)]
+#[derive(Clone, Copy)]
 pub enum Standing {
     Unknown,
     Unlisted,
@@ -61,7 +62,7 @@ pub enum Standing {
 
 // What a standing comes to: the code, the row of the entry by which the elements are checked, the row from which on entries are passed over,
 // and the present entry after it.
-#[derive(Drop)]
+#[derive(Clone, Copy)]
 struct Outcome {
     own: u8,
     check: usize,
@@ -70,7 +71,7 @@ struct Outcome {
 }
 
 // A mandatory segment that is passed over, by its row.
-#[derive(Drop)]
+#[derive(Clone, Copy)]
 pub enum Missing {
     Row(usize),
     Nothing,

@@ -1,3 +1,4 @@
+#![tactic(auto)]
 // GS, the header of a group: refusals 9 and 10.
 ghost use Rattle.std.specs.Prelude.{◌≡◌};
 ghost use Rattle.rules.specs.Base.{first};

@@ -1,3 +1,4 @@
+#![tactic(auto)]
 // The directory and the tables of document 01: rows of six numbers, read by the crate `tables`, and the choice of a set's table among them.
 ghost use Rattle.std.specs.Prelude.{◌≡◌, [], ◌∷◌, ◌++◌, take};
 ghost use Rattle.rules.specs.Base.{ascii, member};
@@ -77,7 +78,7 @@ const EDITION_006010: [u8; 6] = *b"006010";
 const EDITION_004010: [u8; 6] = *b"004010";
 
 // The editions that have tables, and any other.
-#[derive(Drop)]
+#[derive(Clone, Copy)]
 pub enum Edition {
     E006010,
     E004010,
@@ -119,7 +120,7 @@ fn is_supported(gs01: &[u8]) -> bool
 }
 
 // Which tables the sets of a group may have: none where its GS01 is not supported, else those of its edition.
-#[derive(Drop)]
+#[derive(Clone, Copy)]
 pub struct Scope {
     pub supported: bool,
     pub edition: Edition,
@@ -136,7 +137,7 @@ pub fn scope_of(gs: &[u8], d: Delimiters) -> Scope
 }
 
 // Where a set's table stands among the rows, where it has one: from one row up to another.
-#[derive(Drop)]
+#[derive(Clone, Copy)]
 pub enum TableAt {
     Rows(usize, usize),
     Nowhere,

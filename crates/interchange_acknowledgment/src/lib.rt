@@ -1,3 +1,4 @@
+#![tactic(auto)]
 // The acknowledgment of an interchange itself: an interchange with one TA1, or the number of a refusal.
 ghost use Rattle.std.specs.Prelude.{◌≡◌, [], ◌∷◌};
 ghost use Rattle.rules.specs.Cutting as cutting;

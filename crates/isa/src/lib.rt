@@ -1,3 +1,4 @@
+#![tactic(auto)]
 // ISA: its delimiters and its fields, refusals 2 to 5, and the last byte.
 ghost use Rattle.std.specs.Prelude.{◌≡◌, [], ◌∷◌, ◌≤◌, ◌<◌, get_or};
 ghost use Rattle.std.proofs.Math.Seq.{slice};
@@ -31,7 +32,7 @@ const TERMINATOR: usize = 105;
 const FIRST_WITH_REPETITION: u64 = 402;
 
 // What ISA gives: the delimiters of the interchange, or the number of the refusal.
-#[derive(Drop)]
+#[derive(Clone, Copy)]
 pub enum Isa {
     Sound(Delimiters),
     Refused(u8),

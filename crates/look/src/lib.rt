@@ -1,3 +1,4 @@
+#![tactic(auto)]
 // One look at a set: the walk through its table goes on while nothing is to be told, and comes to where the set ends.
 ghost use Rattle.std.specs.Prelude.{◌≡◌, ◌+◌, ◌≤◌, length};
 ghost use Rattle.look.specs.Bytes.{valid_bytes};
@@ -11,7 +12,7 @@ use tables::Due;
 mod segment;
 
 // What a look comes to: a set with a trailer, of which nothing is told, by its place; or any other set.
-#[derive(Drop)]
+#[derive(Clone, Copy)]
 pub enum Look {
     Quiet(SetAt),
     Odd,
@@ -32,7 +33,7 @@ pub fn valid_bytes(d: Delimiters) -> [bool; 256]
 
 // Where a look has come to: where the next segment starts, the row of the present entry, how often that was used, the row of the entry after it,
 // and how many segments there are so far.
-#[derive(Drop)]
+#[derive(Clone, Copy)]
 struct Course {
     at: usize,
     row: usize,
@@ -42,14 +43,14 @@ struct Course {
 }
 
 // Where a segment stands that is not told: the row of its entry, and how often that is used with it.
-#[derive(Drop)]
+#[derive(Clone, Copy)]
 enum Turn {
     At(usize, usize),
     Odd,
 }
 
 // What a segment comes to: the look goes on, or the set ends with its trailer, or something is told.
-#[derive(Drop)]
+#[derive(Clone, Copy)]
 enum Step {
     On(Course),
     Closed(usize),

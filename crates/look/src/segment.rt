@@ -10,7 +10,7 @@ use elements::Marks;
 use rules::Delimiters;
 
 // What a look at a segment comes to: it ends there, and this is the row of the entry after its own; or something is found.
-#[derive(Drop)]
+#[derive(Clone, Copy)]
 pub enum Passed {
     Clean(usize, usize),
     Faulty,

@@ -1,3 +1,4 @@
+#![tactic(auto)]
 // The notes of a set, written: an AK3 for each segment that is told, and an AK4 for each finding.
 ghost use Rattle.std.specs.Prelude.{◌≡◌, ◌&&◌, [], ◌∷◌, map, ◌+◌, length, get_or};
 ghost use Rattle.rules.specs.Base.{every, ◌⇒◌, all, between, is_upper_or_digit};
@@ -20,7 +21,7 @@ use rules::{Delimiters, Finding, SegmentCode};
 use tables::SegmentId;
 
 // What is told of one segment, an AK3: its codes are its own, where that is not 0, and 8, where it is faulty.
-#[derive(Drop)]
+#[derive(Clone, Copy)]
 struct Line {
     id: SegmentId,
     position: usize,
@@ -133,7 +134,7 @@ fn add_ak4(out: &mut [u8], n: usize, s: &[u8], d: Delimiters, f: Finding) -> usi
 }
 
 // What was written of a list of segments: the length of their text, and how many they are.
-#[derive(Drop)]
+#[derive(Clone, Copy)]
 pub struct Told {
     pub length: usize,
     pub segments: usize,

@@ -1,3 +1,4 @@
+#![tactic(auto)]
 // The notes of a set by a table that no document has, so that a test can run what the tables of document 01 cannot cause.
 ghost use Rattle.writing.specs.Over.{Wrote};
 ghost use Rattle.other_table.specs.OtherTable.{notes_text};

@@ -1,3 +1,4 @@
+#![tactic(auto)]
 // What each program does: it reads standard input, answers it, and writes the answer to standard output.
 ghost use Rattle.std.specs.Prelude.{◌≤◌, ◌≡◌, length};
 ghost use Rattle.io.specs.Counts.{IsPrefixLen};
@@ -15,7 +16,7 @@ const MOST: usize = 23 + 1 + 65537;
 const ROOM: usize = 65536;
 
 // What came of reading: how many bytes, and whether a read failed.
-#[derive(Drop)]
+#[derive(Clone, Copy)]
 struct Reading {
     count: usize,
     failed: bool,
@@ -64,7 +65,7 @@ fn write_answer(asked: Acknowledgment, input: &[u8], output: &mut [u8]) -> bool
 }
 
 // What came of an exchange: the answer to so many bytes was printed, or not all of it; or the input could not be read.
-#[derive(Drop)]
+#[derive(Clone, Copy)]
 enum Served {
     Printed(usize),
     Unprinted(usize),

@@ -1,3 +1,4 @@
+#![tactic(auto)]
 // The refusals before the response, in stages: by the call and ISA, by the envelope, and by each group.
 ghost use Rattle.std.specs.Prelude.{◌≡◌};
 ghost use Rattle.refusals.specs.Checks.{fault_refusal, head_checked, trailer_check, envelope_check, group_check};
@@ -8,7 +9,7 @@ use rules::{Call, Delimiters, Interchange};
 use sets::SetsCheck;
 
 // What is wrong with the envelope of an interchange: its end (6), the places of its segments (7), or one of the three tests of IEA (8).
-#[derive(Drop)]
+#[derive(Clone, Copy)]
 pub enum EnvelopeFault {
     NotTerminated,
     OutOfPlace,
@@ -33,14 +34,14 @@ impl EnvelopeFault {
 }
 
 // What the tests of 6 to 8 come to: the envelope of an interchange that passes them, or the first that fails.
-#[derive(Drop)]
+#[derive(Clone, Copy)]
 pub enum EnvelopeCheck {
     Sound(Envelope),
     Faulty(EnvelopeFault),
 }
 
 // What the tests of 9 to 13 come to: a group that passes them, or the number of the refusal.
-#[derive(Drop)]
+#[derive(Clone, Copy)]
 pub enum GroupCheck {
     Sound(GroupAt),
     Refused(u8),

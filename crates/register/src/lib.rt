@@ -1,3 +1,4 @@
+#![tactic(auto)]
 // The control numbers of a group's sets in buckets, each a tree, so that a number used twice is looked for among few. Sets are numbered through
 // the groups of an interchange: a link to a set of an earlier group counts as none, so that the links need not be cleared for each group.
 ghost use Rattle.std.specs.Prelude.{◌≡◌, ℕ, suc, ◌+◌, ◌≤◌, length, get_or, drop};
@@ -12,7 +13,7 @@ use rules::Delimiters;
 pub const BUCKETS: usize = 1024;
 
 // What a search comes to: a set has the number, or none has, and this is the slot of the link to enter it by.
-#[derive(Drop)]
+#[derive(Clone, Copy)]
 pub enum Found {
     Repeated,
     Free(usize),

@@ -1,3 +1,4 @@
+#![tactic(auto)]
 // The envelope of the response, ISA, GS, GE and IEA, each a row of pieces after n bytes of a lent buffer.
 ghost use Rattle.std.specs.Prelude.{[], ◌∷◌};
 ghost use Rattle.rules.specs.Base.{ascii};

@@ -1,3 +1,4 @@
+#![tactic(auto)]
 // The types that the code and the definitions of document 01 share. The definitions stand in specs/, the theorems on them in proofs/.
 ghost use Rattle.std.specs.Prelude.{◌≡◌, eqb};
 ghost use Rattle.rules.specs.Base.{any, last};
@@ -34,7 +35,7 @@ pub const AK9: [u8; 3] = *b"AK9";
 pub const FA: [u8; 2] = *b"FA";
 
 // The limits of an interchange: its bytes, and its groups.
-#[derive(Drop)]
+#[derive(Clone, Copy)]
 pub struct Interchange {
     pub length: usize,
 }
@@ -49,14 +50,14 @@ impl Interchange {
 }
 
 // The repetition separator: a byte, or nothing.
-#[derive(Drop)]
+#[derive(Clone, Copy)]
 pub enum Repetition {
     Nothing,
     By(u8),
 }
 
 // The bytes that part segments, elements, components and repetitions.
-#[derive(Drop)]
+#[derive(Clone, Copy)]
 pub struct Delimiters {
     pub element: u8,
     pub component: u8,
@@ -109,7 +110,7 @@ impl Delimiters {
 }
 
 // The type of an element.
-#[derive(Drop)]
+#[derive(Clone, Copy)]
 pub enum Kind {
     AN,
     ID,
@@ -119,7 +120,7 @@ pub enum Kind {
 }
 
 // The relation that a syntax note asks of the elements at its places: paired, required, exclusive, conditional, list conditional.
-#[derive(Drop)]
+#[derive(Clone, Copy)]
 pub enum Relation {
     P,
     R,
@@ -129,7 +130,7 @@ pub enum Relation {
 }
 
 // A part of a segment: where it starts, and where it ends, which is after its last byte.
-#[derive(Drop)]
+#[derive(Clone, Copy)]
 pub struct Span {
     pub start: usize,
     pub end: usize,
@@ -137,7 +138,7 @@ pub struct Span {
 
 // What is found of one element, an AK4: its place, its reference number (0 for none), the code, and where its echo lies in the segment. The
 // echo ends where it starts if there is none.
-#[derive(Drop)]
+#[derive(Clone, Copy)]
 pub struct Finding {
     pub place: usize,
     pub reference: u16,
@@ -162,7 +163,7 @@ impl Finding {
 }
 
 // A code of AK4: what is wrong with an element.
-#[derive(Drop)]
+#[derive(Clone, Copy)]
 pub struct ElementCode {
     pub number: u8,
 }
@@ -192,7 +193,7 @@ impl ElementCode {
 }
 
 // A code of AK3: what is wrong with a segment.
-#[derive(Drop)]
+#[derive(Clone, Copy)]
 pub struct SegmentCode {
     pub number: u8,
 }
@@ -212,7 +213,7 @@ impl SegmentCode {
 }
 
 // A code of AK5: what is wrong with a set.
-#[derive(Drop)]
+#[derive(Clone, Copy)]
 pub struct SetCode {
     pub number: u8,
 }
@@ -232,7 +233,7 @@ impl SetCode {
 }
 
 // A code of AK9: what is wrong with a group.
-#[derive(Drop)]
+#[derive(Clone, Copy)]
 pub struct GroupCode {
     pub number: u8,
 }
@@ -250,7 +251,7 @@ impl GroupCode {
 }
 
 // The caller's numbers: the date CCYYMMDD, the time HHMM and the control number of the response.
-#[derive(Drop)]
+#[derive(Clone, Copy)]
 pub struct Call {
     pub date: u32,
     pub time: u32,
@@ -258,7 +259,7 @@ pub struct Call {
 }
 
 // What a caller gets: the response with its length, a refusal with its number, or the length that the buffer lacks.
-#[derive(Drop)]
+#[derive(Clone, Copy)]
 pub enum Answer {
     Written(usize),
     Refused(u8),

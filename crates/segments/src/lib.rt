@@ -1,3 +1,4 @@
+#![tactic(auto)]
 // A segment is a part of the interchange, without its terminator. Its fields are cut at the separator e; field 0 is the id.
 ghost use Rattle.std.specs.Prelude.{◌≡◌, length};
 ghost use Rattle.rules.specs.Cutting as cutting;

@@ -1,3 +1,4 @@
+#![tactic(auto)]
 // The sets of a group, cut from its bytes, and refusals 11 to 13. The body of a group is the segments between GS and GE; a place in it may
 // be one past its end.
 ghost use Rattle.std.specs.Prelude.{◌≡◌, true, false};
@@ -9,7 +10,7 @@ ghost use Rattle.sets.specs.Places.{closed_at, unclosed_at, role_of, set_at, Thr
 use rules::Delimiters;
 
 // The place of a set.
-#[derive(Drop)]
+#[derive(Clone, Copy)]
 pub struct SetAt {
     // Where its header starts.
     pub start: usize,
@@ -60,14 +61,14 @@ impl SetAt {
 }
 
 // What the sets of a group come to: where its body ends, or the number of the refusal.
-#[derive(Drop)]
+#[derive(Clone, Copy)]
 pub enum SetsCheck {
     Sound(usize),
     Refused(u8),
 }
 
 // What a segment is to the sets: ST opens one, SE closes it.
-#[derive(Drop)]
+#[derive(Clone, Copy)]
 enum Role {
     Header,
     Trailer,

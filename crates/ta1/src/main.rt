@@ -1,3 +1,4 @@
+#![tactic(auto)]
 // The program `ta1`: it answers an interchange with the TA1.
 use exchange::Acknowledgment;
 

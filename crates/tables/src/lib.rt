@@ -1,3 +1,4 @@
+#![tactic(auto)]
 // Reading a guide: a table as rows of six numbers, lent. What the numbers mean is said in `specs/Rows.antt`.
 ghost use Rattle.std.specs.Prelude.{◌≡◌, not, [], ◌%◌, get_or, drop};
 ghost use Rattle.rules.specs.Base.{same, member, null};
@@ -63,7 +64,7 @@ const LONGEST: usize = 5;
 const RELATION: usize = 1;
 
 // The id of a segment by value: two or three bytes, the third 0 where there are two.
-#[derive(Drop)]
+#[derive(Clone, Copy)]
 pub struct SegmentId {
     pub first: u8,
     pub second: u8,
@@ -71,7 +72,7 @@ pub struct SegmentId {
 }
 
 // An element's row by value. Its code values stay in the guide.
-#[derive(Drop)]
+#[derive(Clone, Copy)]
 pub struct ElementRow {
     pub reference: u16,
     pub mandatory: bool,
@@ -81,7 +82,7 @@ pub struct ElementRow {
 }
 
 // The places that a note names, in their order: as many of the numbers as the count says.
-#[derive(Drop)]
+#[derive(Clone, Copy)]
 pub struct Places {
     pub numbers: [usize; 4],
     pub count: usize,
@@ -414,7 +415,7 @@ pub fn is_entry(guide: &[[u16; 6]], k: usize, id: &[u8]) -> bool
 }
 
 // The segment that is due, by its row.
-#[derive(Drop)]
+#[derive(Clone, Copy)]
 pub enum Due {
     Row(usize),
     Nothing,

@@ -1,3 +1,4 @@
+#![tactic(auto)]
 // Leaves on bytes: searching, comparing, digits and the numbers that they stand for, times, valid bytes.
 ghost use Rattle.std.specs.Prelude.{◌≡◌, ◌||◌, ◌+◌, ◌≤◌, min, eqb, length, take, drop};
 ghost use Rattle.rules.specs.Base.{between, is_digit, is_upper, is_upper_or_digit, same, all, any};
@@ -126,7 +127,7 @@ pub fn is_digits(s: &[u8], lo: usize, hi: usize) -> bool
 }
 
 // The count that digits stand for, where they do.
-#[derive(Drop)]
+#[derive(Clone, Copy)]
 pub enum Count {
     Of(u64),
     Nothing,

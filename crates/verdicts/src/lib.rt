@@ -1,3 +1,4 @@
+#![tactic(auto)]
 // The verdicts: the codes of a set (AK5), and the summary of a group (AK9).
 ghost use Rattle.std.specs.Prelude.{◌≡◌, ◌&&◌, [], ◌∷◌, ◌+◌, min, drop};
 ghost use Rattle.rules.specs.Base.{ascii, same, null, if◌then◌else◌};
@@ -28,7 +29,7 @@ const SE01_DIGITS: usize = 10;
 const GE01_DIGITS: usize = 6;
 
 // Codes: the first `count` of `list`.
-#[derive(Drop)]
+#[derive(Clone, Copy)]
 pub struct Codes {
     pub list: [u8; Codes::MOST],
     pub count: usize,
@@ -106,7 +107,7 @@ pub fn closes(trailer: &[u8], e: u8, n: usize, control: &[u8]) -> bool
 }
 
 // What a set's codes are made from, beside the bytes of its header and trailer.
-#[derive(Drop)]
+#[derive(Clone, Copy)]
 pub struct SetFacts {
     // It has a table.
     pub supported: bool,
@@ -182,7 +183,7 @@ fn included_sets(ge: &[u8], closed: bool, d: Delimiters, sets: usize) -> u64
 }
 
 // How many sets a group has, and how many of them are accepted.
-#[derive(Drop)]
+#[derive(Clone, Copy)]
 pub struct Tally {
     pub received: usize,
     pub accepted: usize,
@@ -213,7 +214,7 @@ fn allowed_sets(verdict: u8, accepted: usize) -> usize
 }
 
 // The summary of a group: AK901 to AK904, and its codes.
-#[derive(Drop)]
+#[derive(Clone, Copy)]
 pub struct Summary {
     pub verdict: u8,
     pub included: u64,

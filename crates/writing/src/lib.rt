@@ -1,3 +1,4 @@
+#![tactic(auto)]
 // Writers of bytes into a lent buffer. A block writes its text at the start of what it is lent, a piece after n bytes of it. Each writes what
 // fits and answers the full length, so that on an empty part it only measures. No writer knows what is being said.
 ghost use Rattle.std.specs.Prelude.{◌≡◌, [], ◌∷◌, map, ◌+◌, min, set};

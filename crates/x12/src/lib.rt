@@ -1,3 +1,4 @@
+#![tactic(auto)]
 // The entries for C, in one archive: the number of an answer is returned and its length stored.
 ghost use Rattle.std.specs.Prelude.{◌≡◌};
 ghost use Rattle.rules.specs.Answers as law;

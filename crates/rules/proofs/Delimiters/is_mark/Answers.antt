@@ -9,8 +9,7 @@ use Rattle.rules.specs.Base.{any, last}
 use Rattle.rules.specs.Cutting.{repetition_mark, marks}
 use Rattle.rules.specs.declared.Repetition.{Repetition}
 use Rattle.rules.specs.declared.Repetition.TheVariants.{Nothing, By}
-use Rattle.rules.proofs.Delimiters.is_mark.Statement.{statement}
-use Rattle.rules.proofs.Delimiters.is_mark.Tie as tie
+use Rattle.rules.proofs.Delimiters.is_mark.Goals as goal
 
 three : (x y z : Bool) → ((x || y) || z) || z ≡ x || (y || (z || false))
 three true y z = refl
@@ -32,15 +31,9 @@ unfolding any last
 one_of b e c t Nothing = three (eqb b e) (eqb b c) (eqb b t)
 one_of b e c t (By s) = four (eqb b e) (eqb b c) (eqb b t) (eqb b s)
 
-last-requires : tie.Need-last-requires
-last-requires c = search rules
-
-returns : tie.Need-returns
+pub returns : goal.returns
 unfolding marks last
 returns c =
-    let a = c.before.before.before.before.args in
+    let a = c.args in
     let d = a.self in
-    rw c.before.before.before.last.ensures (one_of a.b d.element d.component d.terminator d.repetition)
-
-pub is_mark_spec : {M : Type 1} → statement M
-is_mark_spec = tie.close (tie.spec last-requires returns)
+    rw c.last-last.ensures (one_of a.b d.element d.component d.terminator d.repetition)
