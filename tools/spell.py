@@ -49,7 +49,7 @@ OTHER = {
     "noGroup": "absent_group",
     "Call-line": "CallLine",
 }
-STRING = re.compile(r'b?"(?:\\.|[^"\\\n])*"')
+STRING = re.compile(r"""b?"(?:\\.|[^"\\\n])*"|\bb'[^'\\\n]'""")
 
 
 def snake(name):

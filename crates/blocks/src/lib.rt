@@ -46,7 +46,7 @@ pub fn add_ak2(out: &mut [u8], n: usize, d: Delimiters, st: &[u8]) -> usize
 fn verdict_of(codes: Codes) -> u8
     ensures { (result ∷ []) ≡ (if null (codes_of codes) then ascii "A" else ascii "R") }
 {
-    if codes.is_empty() { b'a' } else { b'r' }
+    if codes.is_empty() { b'A' } else { b'R' }
 }
 
 // Codes as elements.
@@ -86,7 +86,7 @@ pub fn put_acceptance(out: &mut [u8], d: Delimiters, fields: &[u8]) -> usize
 {
     let e = d.element;
     let t = d.terminator;
-    let ak5 = [t, b'a', b'k', b'5', e, b'a', t];
+    let ak5 = [t, b'A', b'K', b'5', e, b'A', t];
     let n = rules::AK2.len() + fields.len();
     // Where there is room for all, no piece is clipped.
     if n + ak5.len() <= out.len() {

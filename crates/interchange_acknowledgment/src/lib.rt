@@ -44,7 +44,7 @@ fn note_code(check: EnvelopeCheck) -> u8
 fn verdict(note: u8) -> u8
     ensures { result ∷ [] ≡ (law.verdict_by note).ta104 }
 {
-    if note == 0 { b'a' } else { b'r' }
+    if note == 0 { b'A' } else { b'R' }
 }
 
 // TA1: the interchange by its ISA13, ISA09 and ISA10, its verdict and the note code.

@@ -85,7 +85,7 @@ fn repetition(i: &[u8]) -> Repetition
     ensures { result ≡ repetition_in i.now }
 {
     let isa11 = byte_at(i, REPETITION);
-    if isa11 != b'u' && knows_repetition(isa_field(i, 12)) {
+    if isa11 != b'U' && knows_repetition(isa_field(i, 12)) {
         return Repetition::By(isa11);
     }
     Repetition::Nothing
@@ -192,7 +192,7 @@ fn is_plain(b: u8) -> bool
     ensures { result ≡ plain b }
 {
     match b {
-        b'a'..=b'Z' | b'a'..=b'z' | b'0'..=b'9' | b' ' => false,
+        b'A'..=b'Z' | b'a'..=b'z' | b'0'..=b'9' | b' ' => false,
         _ => true,
     }
 }

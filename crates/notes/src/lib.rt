@@ -63,9 +63,9 @@ fn echoed_id(id: &[u8]) -> SegmentId
         };
     }
     SegmentId {
-        first: b'z',
-        second: b'z',
-        third: b'z',
+        first: b'Z',
+        second: b'Z',
+        third: b'Z',
     }
 }
 

@@ -249,7 +249,7 @@ pub fn is_text(s: &[u8], lo: usize, hi: usize, d: Delimiters) -> bool
 fn is_upper(b: u8) -> bool
     ensures { result ≡ is_upper b }
 {
-    b'a' <= b && b <= b'z'
+    b'A' <= b && b <= b'Z'
 }
 
 fn is_upper_or_digit(b: u8) -> bool

@@ -17,11 +17,11 @@ use segments::field;
 use text::{Count, same_bytes};
 
 // AK901.
-const ACCEPTED: u8 = b'a';
+const ACCEPTED: u8 = b'A';
 
-const PARTLY: u8 = b'p';
+const PARTLY: u8 = b'P';
 
-const REJECTED: u8 = b'r';
+const REJECTED: u8 = b'R';
 
 // How many digits a declared count may have.
 const SE01_DIGITS: usize = 10;

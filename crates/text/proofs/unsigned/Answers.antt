@@ -9,8 +9,7 @@ use lib.ListN.{length, get_or, take, drop}
 use lib.Seq.{take_all}
 use Rattle.rules.specs.Base.{Bytes}
 use Rattle.rules.specs.Elements as elements
-use Rattle.text.proofs.unsigned.Statement.{statement}
-use Rattle.text.proofs.unsigned.Tie as tie
+use Rattle.text.proofs.unsigned.Goals as goal
 
 empty : (s : Bytes) → length s ≡ 0 → s ≡ elements.unsigned s
 empty [] h = refl
@@ -26,23 +25,11 @@ plain : (s : Bytes) → (length s ≡ 0 → ⊥) → (get_or s 0 0 ≡ 45 → �
 plain [] h e = absurd (h refl)
 plain (b ∷ s) h e = rw (ne_eqb b 45 e)
 
-returns : tie.Need-returns
-returns c = empty c.before.args.s.now c.if1.true
+pub returns-then-s-eq0 : goal.returns-then-s-eq0
+returns-then-s-eq0 c = empty c.args.s.now c.if-s-eq0.true
 
-returns-2 : tie.Need-returns-2
-returns-2 c = minus c.before.before.before.before.args.s.now c.before.before.before.if1.false c.before.if2.true
+pub returns-then-s-eq45 : goal.returns-then-s-eq45
+returns-then-s-eq45 c = minus c.args.s.now c.if-s-eq0.false c.if-s-eq45.true
 
-returns-3 : tie.Need-returns-3
-returns-3 c = plain c.before.before.before.args.s.now c.before.before.if1.false c.if2.false
-
-pub unsigned_spec : {M : Type 1} → statement M
-unsigned_spec =
-    tie.close
-    (tie.spec
-    returns
-    (λ c. search rules)
-    (λ c. search rules)
-    (λ c. search rules)
-    (λ c. search rules)
-    returns-2
-    returns-3)
+pub returns : goal.returns
+returns c = plain c.args.s.now c.if-s-eq0.false c.if-s-eq45.false

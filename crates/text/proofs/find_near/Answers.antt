@@ -1,0 +1,17 @@
+-- `text::find_near` meets its contract.
+use Prim.Native.Nat.{◌+◌, ◌-◌}
+use mathlib.Core.Path.{◌≡◌, sym, ◌∙◌}
+use borrow.Author.Rules.{rules}
+use lib.ListN.{length, drop}
+use Rattle.text.specs.Text.{index_of}
+use Rattle.text.proofs.Search.{index_here, index_later, index_none}
+use Rattle.text.proofs.find_near.Goals as goal
+
+pub returns-then-s-i : goal.returns-then-s-i
+returns-then-s-i c = sym (c.loop-i.invariant ∙ index_here _ _ _ c.loop-i-test.true c.if-s-i.true)
+
+pub loop-i-preserved : goal.loop-i-preserved
+loop-i-preserved c = c.loop-i.invariant ∙ index_later _ _ _ c.loop-i-test.true c.if-s-i.false
+
+pub returns : goal.returns
+returns c = sym (c.loop-i.invariant ∙ index_none _ _ _ c.loop-i-test.false)
