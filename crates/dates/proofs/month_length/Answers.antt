@@ -1,0 +1,49 @@
+-- `dates::month_length` meets its contract.
+use mathlib.Core.Path.{◌≡◌, refl, ◌∙◌}
+use mathlib.Core.Bool.{Bool, true, false, ◌||◌, beq}
+use mathlib.Core.List.{[], ◌∷◌}
+use Prim.Native.Nat.{ℕ, ◌+◌, ◌≤◌, ◌%◌}
+use native.Mathlib.Omega.{arith}
+use borrow.Author.Rules.{rules}
+use borrow.Author.Tests.{eqb-true, ne_eqb}
+use lib.Dec.{eqb, ltb, lit≤}
+use mir.Syntax.{w8}
+use mir.Val.{Fits, bool_byte}
+use Rattle.rules.specs.Base.{◌⇒◌, any, first}
+use Rattle.rules.specs.Numbers.{leap, month_length}
+use Rattle.dates.proofs.Months.{passes, at_month, common}
+use Rattle.dates.proofs.month_length.Goals as goal
+
+-- a length and a day more, or none, fits into a byte
+fits : (n : ℕ) (more : Bool) → n ≤ 30 → Fits w8 (n + bool_byte more)
+fits n true l = omega arith
+fits n false l = omega arith
+
+-- February has a day more in a leap year
+february : (year : ℕ) → 28 + bool_byte (leap year) ≡ month_length year 2
+unfolding month_length first any
+february year = by_leap (leap year)
+  where
+    by_leap : (more : Bool) → 28 + bool_byte more ≡ first ((more ⇒ 29) ∷ (true ⇒ 28) ∷ [])
+    by_leap true = refl
+    by_leap false = refl
+
+-- the long months of the formula, and what is tested of them: the months of the year 1 but February
+abbrev long : ℕ → Bool
+long month = beq (eqb (month % 2) 1) (ltb month 8)
+
+right : ℕ → Bool
+right month = eqb month 2 || eqb (30 + bool_byte (long month)) (month_length 1 month)
+
+all_right : passes right 1 12 ≡ true
+unfolding right month_length leap first any
+all_right = refl
+
+pub returns-then-month-eq-FEBRUARY : goal.returns-then-month-eq-FEBRUARY
+returns-then-month-eq-FEBRUARY c = rw (c.if-month-eq-FEBRUARY.true, c.is_leap.ensures) (february _)
+
+pub returns : goal.returns
+unfolding right
+returns c =
+    let other = ne_eqb _ _ c.if-month-eq-FEBRUARY.false in
+    eqb-true _ _ (rw other at (at_month right all_right _ c.requires)) ∙ common _ _ (rw other)

@@ -1,0 +1,18 @@
+-- `isa::are_valid_fields` meets its contract.
+use Prim.Native.Nat.{◌-◌}
+use mathlib.Core.Path.{◌≡◌, refl, sym, ◌∙◌}
+use mathlib.Core.List.{[]}
+use native.Mathlib.Omega.{arith}
+use borrow.Author.Tests.{not-true, not-false}
+use lib.Seq.{slice}
+use Rattle.rules.specs.Base.{all}
+use Rattle.rules.specs.Cutting.{valid, isa, separators}
+use Rattle.isa.proofs.Places.{isa_length, part_step, part_end}
+use borrow.Author.Rules.{rules}
+use Rattle.isa.proofs.are_valid_fields.Given as goal
+
+abbrev pub invariant-loop-n : goal.invariant-loop-n
+invariant-loop-n l = all (all (valid l.d)) (slice l.from l.to (isa l.i)) ≡ all (all (valid l.d)) (slice l.n l.to (isa l.i))
+
+abbrev pub decreases-loop-n : goal.decreases-loop-n
+decreases-loop-n l = l.to - l.n

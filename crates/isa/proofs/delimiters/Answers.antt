@@ -1,0 +1,15 @@
+-- `isa::delimiters` meets its contract.
+use Rattle.rules.specs.Cutting.{delimiters}
+use borrow.Author.Rules.{rules}
+use Rattle.isa.proofs.delimiters.Goals as goal
+
+pub returns : goal.returns
+unfolding delimiters
+returns c =
+    rw (
+      ← c.byte_at.ensures,
+      ← c.byte_at-2.ensures,
+      ← c.byte_at-3.ensures,
+      ← c.repetition.ensures,
+    )
+    c.new.ensures

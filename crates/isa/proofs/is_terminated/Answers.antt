@@ -1,0 +1,6 @@
+-- `isa::is_terminated` meets its contract.
+use borrow.Author.Rules.{rules}
+use Rattle.isa.proofs.is_terminated.Goals as goal
+
+pub returns : goal.returns
+returns c = rw (← c.last_byte.ensures)

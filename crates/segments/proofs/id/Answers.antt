@@ -1,0 +1,6 @@
+-- `segments::id` meets its contract.
+use borrow.Author.Rules.{rules}
+use Rattle.segments.proofs.id.Goals as goal
+
+pub returns : goal.returns
+returns c = c.field.ensures

@@ -1,0 +1,19 @@
+-- `tables::is_known` meets its contract.
+use Prim.Native.Nat.{◌-◌}
+use mathlib.Core.Path.{◌≡◌, sym, ◌∙◌}
+use mathlib.Core.Bool.{true, false}
+use lib.ListN.{length, drop}
+use Rattle.rules.specs.Base.{member}
+use Rattle.tables.specs.Rows.{ids_in}
+use Rattle.tables.proofs.Numbers.{known_step, known_end}
+use borrow.Author.Rules.{rules}
+use Rattle.tables.proofs.is_known.Goals as goal
+
+pub returns-then-is_named : goal.returns-then-is_named
+returns-then-is_named c = sym (c.loop-k.invariant ∙ known_step _ _ _ true c.loop-k-test.true (sym c.is_named.ensures ∙ c.if-is_named.true))
+
+pub loop-k-preserved : goal.loop-k-preserved
+loop-k-preserved c = c.loop-k.invariant ∙ known_step _ _ _ false c.loop-k-test.true (sym c.is_named.ensures ∙ c.if-is_named.false)
+
+pub returns : goal.returns
+returns c = sym (c.loop-k.invariant ∙ known_end _ _ _ c.loop-k-test.false)

@@ -1,0 +1,14 @@
+-- `tables::named` meets its contract.
+use Prim.Native.Nat.{◌+◌, ◌-◌}
+use mathlib.Core.Path.{◌≡◌, sym, ◌∙◌}
+use lib.ListN.{length, drop}
+use Rattle.text.specs.Text.{index_of}
+use Rattle.text.proofs.Search.{index_here, index_later, index_none}
+use borrow.Author.Rules.{rules}
+use Rattle.tables.proofs.named.Given as goal
+
+abbrev pub invariant-loop-i : goal.invariant-loop-i
+invariant-loop-i l = index_of 0 l.numbers ≡ l.i + index_of 0 (drop l.i l.numbers)
+
+abbrev pub decreases-loop-i : goal.decreases-loop-i
+decreases-loop-i l = length l.numbers - l.i

@@ -1,0 +1,16 @@
+-- `tables::reach` meets its contract.
+use Prim.Native.Nat.{◌-◌}
+use mathlib.Core.Path.{◌≡◌, sym, ◌∙◌}
+use mathlib.Core.List.{[]}
+use lib.ListN.{length}
+use Rattle.text.specs.Text.{next_where}
+use Rattle.tables.specs.Reading.{is_entry_row, entry_row}
+use Rattle.text.proofs.Where.{next_here, next_later, next_none}
+use borrow.Author.Rules.{rules}
+use Rattle.tables.proofs.reach.Given as goal
+
+abbrev pub invariant-loop-k : goal.invariant-loop-k
+invariant-loop-k l = next_where (is_entry_row l.id) l.guide 0 ≡ next_where (is_entry_row l.id) l.guide l.k
+
+abbrev pub decreases-loop-k : goal.decreases-loop-k
+decreases-loop-k l = length l.guide - l.k

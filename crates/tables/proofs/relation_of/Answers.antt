@@ -1,0 +1,24 @@
+-- `tables::relation_of` meets its contract.
+use borrow.Author.Tests.{ne_eqb}
+use Rattle.tables.specs.Rows.{relation_of}
+use Rattle.tables.proofs.relation_of.Goals as goal
+
+pub returns-in-1 : goal.returns-in-1
+unfolding relation_of
+returns-in-1 c = rw c.in-1.is
+
+pub returns-in-2 : goal.returns-in-2
+unfolding relation_of
+returns-in-2 c = rw c.in-2.is
+
+pub returns-in-3 : goal.returns-in-3
+unfolding relation_of
+returns-in-3 c = rw c.in-3.is
+
+pub returns-in-4 : goal.returns-in-4
+unfolding relation_of
+returns-in-4 c = rw c.in-4.is
+
+pub returns-in_default : goal.returns-in_default
+unfolding relation_of
+returns-in_default c = rw (ne_eqb _ _ c.in_default.in_default-own.rest.0.0.0.1, ne_eqb _ _ c.in_default.in_default-own.rest.0.0.1, ne_eqb _ _ c.in_default.in_default-own.rest.0.1, ne_eqb _ _ c.in_default.in_default-own.rest.1)

@@ -1,0 +1,7 @@
+-- `writing::add_count` meets its contract: a separator and its content.
+use borrow.Author.Rules.{rules}
+use Rattle.writing.proofs.Segments.{field}
+use Rattle.writing.proofs.add_count.Goals as goal
+
+pub returns : goal.returns
+returns c = field _ c.add_byte-n.ensures c.add_number.ensures

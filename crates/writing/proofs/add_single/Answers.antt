@@ -1,0 +1,7 @@
+-- `writing::add_single` meets its contract: a separator and its content.
+use borrow.Author.Rules.{rules}
+use Rattle.writing.proofs.Segments.{field}
+use Rattle.writing.proofs.add_single.Goals as goal
+
+pub returns : goal.returns
+returns c = field _ c.add_byte-n.ensures c.add_byte.ensures

@@ -1,0 +1,18 @@
+-- `writing::put_bytes` meets its contract: so far, the first i bytes stand over the buffer's start.
+use borrow.Author.Rules.{rules}
+use mathlib.Core.Path.{◌≡◌, refl, sym}
+use Prim.Native.Nat.{◌≤◌, ◌-◌}
+use native.Mathlib.Omega.{arith}
+use lib.ListN.{length, take, length-set}
+use Rattle.writing.specs.Over.{over}
+use Rattle.writing.proofs.Over.{over_none, over_turn, over_whole}
+use Rattle.writing.proofs.put_bytes.Goals as goal
+
+pub loop-i-init : goal.loop-i-init
+loop-i-init c = (omega arith, sym (over_none _), refl)
+
+pub loop-i-preserved : goal.loop-i-preserved
+loop-i-preserved c = (omega arith, over_turn _ _ _ _ c.loop-i.invariant.1 (omega arith), simp length-set (omega arith))
+
+pub returns : goal.returns
+returns c = record { count = omega arith; bytes = over_whole _ _ _ c.loop-i.i c.loop-i.invariant.1 (omega arith) }

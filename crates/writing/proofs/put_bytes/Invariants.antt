@@ -1,0 +1,15 @@
+-- `writing::put_bytes` meets its contract: so far, the first i bytes stand over the buffer's start.
+use borrow.Author.Rules.{rules}
+use mathlib.Core.Path.{◌≡◌, refl, sym}
+use Prim.Native.Nat.{◌≤◌, ◌-◌}
+use native.Mathlib.Omega.{arith}
+use lib.ListN.{length, take, length-set}
+use Rattle.writing.specs.Over.{over}
+use Rattle.writing.proofs.Over.{over_none, over_turn, over_whole}
+use Rattle.writing.proofs.put_bytes.Given as goal
+
+abbrev pub invariant-loop-i : goal.invariant-loop-i
+invariant-loop-i l = (l.i ≤ l.end) × (l.out ≡ over (take l.i l.bytes) l.initial.out) × (length l.out ≡ length l.initial.out)
+
+abbrev pub decreases-loop-i : goal.decreases-loop-i
+decreases-loop-i l = l.end - l.i
