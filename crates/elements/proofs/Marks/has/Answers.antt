@@ -1,0 +1,8 @@
+-- `elements::Marks::has` meets its contract.
+use Rattle.std.proofs.Common.{refl, rules}
+use Rattle.elements.specs.Marks.{marked}
+use Rattle.elements.proofs.Marks.has.Goals as goal
+
+pub returns : goal.returns
+unfolding marked
+returns c = refl

@@ -1,0 +1,6 @@
+-- `elements::PlaceCodes::finding` meets its contract.
+use Rattle.std.proofs.Common.{rules}
+use Rattle.elements.proofs.PlaceCodes.finding.Goals as goal
+
+pub returns : goal.returns
+returns c = rw (c.new.ensures, c.echo.ensures)

@@ -1,0 +1,14 @@
+-- `elements::breaks_notes` meets its contract.
+use Rattle.std.proofs.Common.{◌≡◌, ◌-◌, true, false, length, drop, sym, ◌∙◌, rules}
+use Rattle.rules.specs.Base.{any}
+use Rattle.rules.specs.Cutting.{split}
+use Rattle.tables.specs.Rows.{syntax_in}
+use Rattle.elements.specs.Notes.{breaks}
+use Rattle.elements.proofs.Notes.{notes_step, notes_over, notes_past}
+use Rattle.elements.proofs.breaks_notes.Given as goal
+
+abbrev pub invariant-loop-k : goal.invariant-loop-k
+invariant-loop-k l = any (breaks l.present (split l.e l.s) l.n) (syntax_in (drop l.from l.guide)) ≡ any (breaks l.present (split l.e l.s) l.n) (syntax_in (drop l.k l.guide))
+
+abbrev pub decreases-loop-k : goal.decreases-loop-k
+decreases-loop-k l = length l.guide - l.k

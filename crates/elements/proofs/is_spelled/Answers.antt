@@ -1,0 +1,10 @@
+-- `elements::is_spelled` meets its contract.
+use Rattle.std.proofs.Common.{sym, ◌∙◌, rules}
+use borrow.Author.Tests.{not-true, not-false}
+use Rattle.elements.proofs.is_spelled.Goals as goal
+
+pub returns-then-not-is_number : goal.returns-then-not-is_number
+returns-then-not-is_number c = rw (sym c.is_number.ensures ∙ c.if-not-is_number.true)
+
+pub returns : goal.returns
+returns c = rw (sym c.is_number.ensures ∙ c.if-not-is_number.false, ← c.unsigned.ensures, ← c.all_digits.ensures)

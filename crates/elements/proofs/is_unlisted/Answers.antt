@@ -1,0 +1,10 @@
+-- `elements::is_unlisted` meets its contract.
+use Rattle.std.proofs.Common.{sym, ◌∙◌, rules}
+use borrow.Author.Tests.{not-true, not-false}
+use Rattle.elements.proofs.is_unlisted.Goals as goal
+
+pub returns-then-not-has_values : goal.returns-then-not-has_values
+returns-then-not-has_values c = rw (sym c.has_values.ensures ∙ c.if-not-has_values.true)
+
+pub returns : goal.returns
+returns c = rw (sym c.has_values.ensures ∙ c.if-not-has_values.false, ← c.is_listed.ensures)

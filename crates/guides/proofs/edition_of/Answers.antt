@@ -1,0 +1,16 @@
+-- `guides::edition_of` meets its contract.
+use Rattle.guides.specs.Choice.{edition_in}
+use borrow.Author.Rules.{rules}
+use Rattle.guides.proofs.edition_of.Goals as goal
+
+pub returns-then-same_bytes : goal.returns-then-same_bytes
+unfolding edition_in
+returns-then-same_bytes c = rw (← c.part-edition.ensures, ← c.same_bytes.ensures, c.if-same_bytes.true)
+
+pub returns-then-same_bytes-2 : goal.returns-then-same_bytes-2
+unfolding edition_in
+returns-then-same_bytes-2 c = rw (← c.part-edition.ensures, ← c.same_bytes.ensures, c.if-same_bytes.false, ← c.same_bytes-2.ensures, c.if-same_bytes-2.true)
+
+pub returns : goal.returns
+unfolding edition_in
+returns c = rw (← c.part-edition.ensures, ← c.same_bytes.ensures, c.if-same_bytes.false, ← c.same_bytes-2.ensures, c.if-same_bytes-2.false)

@@ -1,0 +1,9 @@
+-- `response_envelope::add_isa_stamp` meets its contract: a row of elements.
+use borrow.Author.Rules.{rules}
+use Rattle.writing.proofs.Laws.{kept}
+use Rattle.writing.proofs.Segments.{also}
+use Rattle.response_envelope.proofs.add_isa_stamp.Goals as goal
+
+pub returns : goal.returns
+returns c =
+    also _ _ _ (also _ _ _ (also _ _ _ (also _ _ _ c.add_fixed-n.ensures c.add_fixed-n-2.ensures) c.add_field-n.ensures) c.add_field-n-2.ensures) c.add_fixed.ensures
