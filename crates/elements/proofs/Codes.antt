@@ -36,11 +36,16 @@ in_order false true true false true u x y = refl
 in_order false true true false false true x y = refl
 in_order false true true false false false x y = refl
 
+-- a rule that does not apply, behind another
+alone : (b : Bool) → first ((b ⇒ 8) ∷ []) ≡ first ((b ⇒ 8) ∷ (false ⇒ 9) ∷ [])
+unfolding first
+alone true = refl
+alone false = refl
+
 -- the rule of a date and of a time
 module _ (e : Bytes) where
   pub date_rule : first ((not (is_date e) ⇒ 8) ∷ []) ≡ rule_code DT e
-  unfolding first
-  date_rule = refl
+  date_rule = alone (not (is_date e))
 
   pub time_rule : first ((not (is_time e) ⇒ 9) ∷ []) ≡ rule_code TM e
   unfolding first

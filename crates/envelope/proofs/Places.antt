@@ -77,8 +77,8 @@ module _ (d : Delimiters) (i : Bytes) (at end : ℕ) (q : end ≡ end_of d i at)
   trailer_missing g = rw (← q, g)
 
 -- 4. The group and the envelope, likewise.
-pub next_found_by : (d : Delimiters) (i : Bytes) (at end : ℕ) {body_end : ℕ} {g : GroupAt} → end ≡ end_of d i at
-    → is_named (ascii "GS") (split d.element (part i at end)) ≡ true → body_end ≡ body_end d i (end + 1) → g ≡ group_ending d i at body_end
+pub next_found_by : (d : Delimiters) (i : Bytes) (at end : ℕ) {ends : ℕ} {g : GroupAt} → end ≡ end_of d i at
+    → is_named (ascii "GS") (split d.element (part i at end)) ≡ true → ends ≡ body_end d i (end + 1) → g ≡ group_ending d i at ends
     → Found g ≡ next_group d i at
 unfolding next_group group_starting segment_at same
 next_found_by d i at end q g b p =

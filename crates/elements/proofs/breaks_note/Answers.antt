@@ -24,7 +24,7 @@ slice_bounds-numbers-end c =
     places_within a.guide.now a.k c.places_at-places.ensures
 
 pub slice_bounds-is_broken-end : goal.slice_bounds-is_broken-end
-slice_bounds-is_broken-end c = sym (length-take-le _ _ (array-share-prefix-numbers «c.before»))
+slice_bounds-is_broken-end c = sym (length-take-le _ _ ((let a = c.args in places_within a.guide.now a.k c.places_at-places.ensures)))
 
 pub returns : goal.returns
 returns c =

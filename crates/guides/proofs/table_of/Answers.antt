@@ -7,14 +7,6 @@ use Rattle.guides.specs.declared.Edition.{Edition}
 use Rattle.guides.specs.declared.Edition.TheVariants.{E006010, E004010, Other}
 use Rattle.guides.proofs.table_of.Goals as goal
 
--- it is, and the edition is told
-chosen : (c : tie.Else2) (e : Edition) → c.before.before.before.before.before.before.args.scope.edition ≡ e
-    → place_in e ≡ place_of c.before.before.before.before.before.before.args.scope c.before.before.before.before.before.before.args.st01.now
-unfolding place_of
-chosen c e h =
-    let test = c.before in
-    rw (not-false test.before.before.before.before.before.args.scope.supported test.before.before.if1.false, ← test.same_bytes.ensures, not-false test.same_bytes.result c.if2.false, h)
-
 pub returns-then-not-scope : goal.returns-then-not-scope
 unfolding place_of
 returns-then-not-scope c = rw (not-true c.args.scope.supported c.if-not-scope.true)
@@ -23,13 +15,16 @@ returns-then-not-scope c = rw (not-true c.args.scope.supported c.if-not-scope.tr
 pub returns-then-not-same_bytes : goal.returns-then-not-same_bytes
 unfolding place_of
 returns-then-not-same_bytes c =
-    rw (not-false c.args.scope.supported c.if-not-scope.false, ← c.same_bytes.ensures, not-true c.same_bytes.result c.if-not-same_bytes.true-raw)
+    rw (not-false c.args.scope.supported c.if-not-scope.false, ← c.same_bytes.ensures, c.if-not-same_bytes.true)
 
 pub returns-in-E006010 : goal.returns-in-E006010
-returns-in-E006010 c = chosen «c.before.before» E006010 c.in-E006010.is
+unfolding place_of
+returns-in-E006010 c = (let chosen' : (e : Edition) → c.args.scope.edition ≡ e → place_in e ≡ place_of c.args.scope c.args.st01.now = λ e h. rw (not-false c.args.scope.supported c.if-not-scope.false, ← c.same_bytes.ensures, c.if-not-same_bytes.false, h) in chosen') E006010 c.in-E006010.is
 
 pub returns-in-E004010 : goal.returns-in-E004010
-returns-in-E004010 c = chosen «c.before.before» E004010 c.in-E004010.is
+unfolding place_of
+returns-in-E004010 c = (let chosen' : (e : Edition) → c.args.scope.edition ≡ e → place_in e ≡ place_of c.args.scope c.args.st01.now = λ e h. rw (not-false c.args.scope.supported c.if-not-scope.false, ← c.same_bytes.ensures, c.if-not-same_bytes.false, h) in chosen') E004010 c.in-E004010.is
 
 pub returns-in-Other : goal.returns-in-Other
-returns-in-Other c = chosen «c.before.before» Other c.in-Other.is
+unfolding place_of
+returns-in-Other c = (let chosen' : (e : Edition) → c.args.scope.edition ≡ e → place_in e ≡ place_of c.args.scope c.args.st01.now = λ e h. rw (not-false c.args.scope.supported c.if-not-scope.false, ← c.same_bytes.ensures, c.if-not-same_bytes.false, h) in chosen') Other c.in-Other.is

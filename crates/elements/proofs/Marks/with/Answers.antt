@@ -2,7 +2,8 @@
 use Rattle.std.proofs.Common.{◌∙◌, ⊎_elim, rules}
 use Rattle.elements.specs.Marks.{marked_with}
 use Rattle.elements.proofs.Marks.with.Goals as goal
+use Rattle.elements.proofs.Marks.with.Goals.{then-present, else-present}
 
 pub returns : goal.returns
 unfolding marked_with
-returns c = ⊎_elim (λ w. rw (w.0.taken, w.2 ∙ w.1.ensures)) (λ w. rw (w.0.left, w.1)) c.if-present.branch
+returns c = elim c.if-present.branch [ then-present w ↦ rw (w.if-present.true, ?) | else-present w ↦ ? ]
