@@ -10,8 +10,7 @@ use Rattle.rules.specs.Cutting.{field}
 use Rattle.text.specs.Text.{index_of, part}
 use Rattle.text.proofs.Search.{find_le}
 use Rattle.segments.proofs.Fields.{field_first, field_at, field_next}
-use Rattle.verdicts.proofs.closes.Statement.{statement}
-use Rattle.verdicts.proofs.closes.Tie as tie
+use Rattle.verdicts.proofs.closes.Goals as goal
 
 -- the id ends inside the segment
 id_within : (e : ℕ) (s : Bytes) (r : ℕ) → r ≡ 0 + index_of e (drop 0 s) → r ≤ length s
@@ -33,45 +32,30 @@ module _ (e : ℕ) (s f : Bytes) (at : ℕ) (q : f ≡ part s at (at + index_of 
   fits : length f ≤ length s - at
   fits = omega (arith, long, inside, length-drop at s)
 
-add-first : tie.Need-overflow-add-first
-add-first c = omega (arith, id_within _ _ _ c.find-near.ensures)
+pub overflow_add-first : goal.overflow_add-first
+overflow_add-first c = omega (arith, id_within _ _ _ c.find_near-first.ensures)
 
-add-field-at : tie.Need-overflow-add-field-at
-add-field-at c = omega (arith, id_within _ _ _ c.before.before.before.find-near.ensures, fits _ _ _ _ c.before.before.field_at.ensures)
+pub overflow_add-first-then-declares : goal.overflow_add-first-then-declares
+overflow_add-first-then-declares c = omega (arith, id_within _ _ _ c.find_near-first.ensures, fits _ _ _ _ c.field_at-se01.ensures)
 
-add-field-at-2 : tie.Need-overflow-add-field-at-2
-add-field-at-2 c = omega (arith, id_within _ _ _ c.before.before.before.find-near.ensures, fits _ _ _ _ c.before.before.field_at.ensures)
+pub overflow_add-first-then-declares-2 : goal.overflow_add-first-then-declares-2
+overflow_add-first-then-declares-2 c = omega (arith, id_within _ _ _ c.find_near-first.ensures, fits _ _ _ _ c.field_at-se01.ensures)
 
-returns : tie.Need-returns
-returns c =
-    let found = c.before.before.before.before.before.find-near.ensures in
-    let se01 = c.before.before.before.before.field_at.ensures in
+pub returns-then-declares : goal.returns-then-declares
+returns-then-declares c =
+    let found = c.find_near-first.ensures in
+    let se01 = c.field_at-se01.ensures in
     let first = field_next field_first found in
     let second = field_next first (ends _ _ _ _ se01) in
     rw (
       field_at first refl ∙ sym se01,
-      ← c.before.before.before.declares.ensures,
-      c.before.before.if1.true,
-      field_at second refl ∙ sym c.before.field-at2.ensures,
+      ← c.declares.ensures,
+      c.if-declares.true,
+      field_at second refl ∙ sym c.field_at.ensures,
     )
     c.same_bytes.ensures
 
-returns-2 : tie.Need-returns-2
-returns-2 c =
-    let first = field_next field_first c.before.before.before.find-near.ensures in
-    rw (field_at first refl ∙ sym c.before.before.field_at.ensures, ← c.before.declares.ensures, c.if1.false)
-
-pub closes_spec : {M : Type 1} → statement M
-closes_spec =
-    tie.close
-    (tie.spec
-    (λ c κs. search rules)
-    add-first
-    (λ c κs. search rules)
-    (λ c κs. search rules)
-    add-field-at
-    add-field-at-2
-    (λ c κs. search rules)
-    (λ c κs. search rules)
-    returns
-    returns-2)
+pub returns-else-declares : goal.returns-else-declares
+returns-else-declares c =
+    let first = field_next field_first c.find_near-first.ensures in
+    rw (field_at first refl ∙ sym c.field_at-se01.ensures, ← c.declares.ensures, c.if-declares.false)

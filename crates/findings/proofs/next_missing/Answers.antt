@@ -1,0 +1,14 @@
+-- `findings::next_missing` meets its contract.
+use borrow.Author.Tests.{lt-ltb, le-ltb}
+use mathlib.Core.Logic.{⊎_elim}
+use Rattle.findings.specs.Steps.{next_missing}
+use borrow.Author.Rules.{rules}
+use Rattle.findings.proofs.next_missing.Goals as goal
+
+pub returns-then-row-guide : goal.returns-then-row-guide
+unfolding next_missing
+returns-then-row-guide c = rw (← c.next_mandatory-row.ensures, lt-ltb _ _ c.if-row-end.true, c.if-row-guide.true-raw)
+
+pub returns : goal.returns
+unfolding next_missing
+returns c = rw (← c.next_mandatory-row.ensures) (⊎_elim (λ w. rw (lt-ltb _ _ w.0.taken, w.1.left)) (λ w. rw (le-ltb _ _ w.left)) c.else-row-end.branch)

@@ -1,0 +1,8 @@
+-- `findings::repeated` meets its contract.
+use Rattle.findings.specs.Steps as steps
+use borrow.Author.Rules.{rules}
+use Rattle.findings.proofs.repeated.Goals as goal
+
+pub returns : goal.returns
+unfolding steps.outcome
+returns c = rw (c.use_code.ensures, c.bumped-used.ensures)

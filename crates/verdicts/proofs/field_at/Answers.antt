@@ -1,0 +1,6 @@
+-- `verdicts::field_at` meets its contract.
+use borrow.Author.Rules.{rules}
+use Rattle.verdicts.proofs.field_at.Goals as goal
+
+pub returns : goal.returns
+returns c = rw (← c.find_near.ensures) c.part.ensures

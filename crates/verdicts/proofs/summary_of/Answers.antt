@@ -1,0 +1,7 @@
+-- `verdicts::summary_of` meets its contract.
+use Rattle.verdicts.proofs.Laws.{summary_made}
+use borrow.Author.Rules.{rules}
+use Rattle.verdicts.proofs.summary_of.Goals as goal
+
+pub returns : goal.returns
+returns c = summary_made _ _ _ _ c.group_codes-codes.ensures c.verdict_of-verdict.ensures c.included_sets.ensures c.allowed_sets.ensures
