@@ -5,6 +5,7 @@ use Rattle.elements.specs.Checks.{next_found}
 use Rattle.elements.specs.declared.Cursor.{Cursor}
 use Rattle.elements.proofs.Checks.{found_end, found_stop, found_over, found_here, found_later}
 use Rattle.elements.proofs.next_found.Goals as goal
+use Rattle.elements.proofs.next_found.Goals.{then-loop-c-test+else-not-is_segment, else-loop-c-test}
 
 pub loop-c-smaller-then-not-is_element : goal.loop-c-smaller-then-not-is_element
 loop-c-smaller-then-not-is_element c = omega (arith, ap (λ (v : Cursor). v.row) c.next_row-c.ensures)
@@ -42,4 +43,7 @@ returns c =
     let v = c.loop-c.c in
     c.surplus.ensures
     ∙ sym (c.loop-c.invariant
-    ∙ ⊎_elim (λ w. found_stop a.d a.s.now a.guide.now v w.0.taken (sym w.1.ensures ∙ not-false _ w.2.left)) (λ w. found_end a.d a.s.now a.guide.now v w.left) c.loop-c-test.branch)
+    ∙ elim c.loop-c-test.branch [
+      then-loop-c-test+else-not-is_segment w ↦ found_stop a.d a.s.now a.guide.now v w.loop-c-test.true (sym w.is_segment.ensures ∙ w.if-not-is_segment.false)
+    | else-loop-c-test w ↦ found_end a.d a.s.now a.guide.now v w.loop-c-test.false
+    ])

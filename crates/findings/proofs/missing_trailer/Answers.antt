@@ -14,4 +14,4 @@ pub returns-in_default : goal.returns-in_default
 unfolding steps.trailer_step
 returns-in_default c =
     let w = c.args.w in
-    rw (← c.stands.ensures) (not_later (λ st. Done ≡ steps.trailer_by w st) refl refl (λ k. refl) refl c.stands.result c.in_default.in_default-own.keys2)
+    rw (← c.stands.ensures) (not_later (λ st. Done ≡ steps.trailer_by w st) refl refl (λ k. refl) refl c.stands.result c.in_default.not-Later)

@@ -4,6 +4,7 @@ use mathlib.Core.Logic.{⊎_elim}
 use Rattle.findings.specs.Steps.{next_missing}
 use borrow.Author.Rules.{rules}
 use Rattle.findings.proofs.next_missing.Goals as goal
+use Rattle.findings.proofs.next_missing.Goals.{else-row-end-via-then-row-end+else-row-guide, else-row-end-via-else-row-end}
 
 pub returns-then-row-guide : goal.returns-then-row-guide
 unfolding next_missing
@@ -11,4 +12,4 @@ returns-then-row-guide c = rw (← c.next_mandatory-row.ensures, lt-ltb _ _ c.if
 
 pub returns : goal.returns
 unfolding next_missing
-returns c = rw (← c.next_mandatory-row.ensures) (⊎_elim (λ w. rw (lt-ltb _ _ w.0.taken, w.1.left)) (λ w. rw (le-ltb _ _ w.left)) c.else-row-end.branch)
+returns c = rw (← c.next_mandatory-row.ensures) (elim c.else-row-end.branch [ else-row-end-via-then-row-end+else-row-guide w ↦ rw (lt-ltb _ _ w.if-row-end.true, le-ltb _ _ w.if-row-guide.false) | else-row-end-via-else-row-end w ↦ rw (le-ltb _ _ w.if-row-end.false) ])

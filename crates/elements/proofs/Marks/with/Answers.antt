@@ -6,4 +6,4 @@ use Rattle.elements.proofs.Marks.with.Goals.{then-present, else-present}
 
 pub returns : goal.returns
 unfolding marked_with
-returns c = elim c.if-present.branch [ then-present w ↦ let x : w.if-present.true ≡ w.if-present.true = ? in ? | else-present w ↦ ? ]
+returns c = elim c.if-present.branch [ then-present w ↦ rw (w.if-present.true, w.bits-is ∙ w.wrapping_add_usize-bits.ensures.value) | else-present w ↦ rw (w.if-present.false, w.bits-is) ]
