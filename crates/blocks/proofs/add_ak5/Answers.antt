@@ -1,0 +1,9 @@
+-- `blocks::add_ak5` meets its contract: a segment's row of pieces.
+use borrow.Author.Rules.{rules}
+use Rattle.writing.proofs.Laws.{kept}
+use Rattle.writing.proofs.Segments.{begin, more, end}
+use Rattle.blocks.proofs.add_ak5.Goals as goal
+
+pub returns : goal.returns
+returns c =
+    end (more (more (begin _ c.add_bytes-n.ensures) _ (rw c.verdict_of.ensures at c.add_single-n.ensures)) _ c.add_codes-n.ensures) c.add_byte.ensures

@@ -1,0 +1,11 @@
+-- `blocks::add_st` meets its contract: a segment's row of pieces.
+use borrow.Author.Rules.{rules}
+use Rattle.rules.specs.Response.{st_out}
+use Rattle.writing.proofs.Laws.{kept}
+use Rattle.writing.proofs.Segments.{begin, more, end}
+use Rattle.blocks.proofs.add_st.Goals as goal
+
+pub returns : goal.returns
+unfolding st_out
+returns c =
+    end (more (more (begin _ c.add_bytes-n.ensures) _ c.add_field-n.ensures) _ c.add_fixed-n.ensures) c.add_byte.ensures

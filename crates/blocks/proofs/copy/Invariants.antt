@@ -1,0 +1,14 @@
+-- `blocks::copy` meets its contract: so far, the first i bytes stand over the buffer's start.
+use mathlib.Core.Path.{◌≡◌, refl, sym}
+use Prim.Native.Nat.{◌-◌}
+use native.Mathlib.Omega.{arith}
+use lib.ListN.{length, take, length-set}
+use Rattle.writing.specs.Over.{over}
+use Rattle.writing.proofs.Over.{over_none, over_turn, over_whole}
+use Rattle.blocks.proofs.copy.Given as goal
+
+abbrev pub invariant-loop-i : goal.invariant-loop-i
+invariant-loop-i l = (l.out ≡ over (take l.i l.bytes) l.initial.out) × (length l.out ≡ length l.initial.out)
+
+abbrev pub decreases-loop-i : goal.decreases-loop-i
+decreases-loop-i l = length l.bytes - l.i

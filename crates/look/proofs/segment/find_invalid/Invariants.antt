@@ -1,0 +1,16 @@
+-- `look::segment::find_invalid` meets its contract.
+use Prim.Native.Nat.{◌-◌}
+use mathlib.Core.Path.{◌≡◌, sym, ◌∙◌}
+use native.Mathlib.Omega.{arith}
+use borrow.Author.Rules.{rules}
+use lib.ListN.{length}
+use Rattle.text.specs.Text.{next_where}
+use Rattle.text.proofs.Where.{next_here, next_later, next_none}
+use Rattle.look.specs.Bytes.{is_other}
+use Rattle.look.proofs.segment.find_invalid.Given as goal
+
+abbrev pub invariant-loop-i : goal.invariant-loop-i
+invariant-loop-i l = next_where (is_other l.valid) l.s l.from ≡ next_where (is_other l.valid) l.s l.i
+
+abbrev pub decreases-loop-i : goal.decreases-loop-i
+decreases-loop-i l = length l.s - l.i

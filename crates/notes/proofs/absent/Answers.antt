@@ -1,0 +1,6 @@
+-- `notes::absent` meets its contract.
+use borrow.Author.Rules.{rules}
+use Rattle.notes.proofs.absent.Goals as goal
+
+pub returns : goal.returns
+returns c = rw c.id_at.ensures

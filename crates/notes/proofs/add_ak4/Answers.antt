@@ -1,0 +1,11 @@
+-- `notes::add_ak4` meets its contract: a segment's row of pieces.
+use borrow.Author.Rules.{rules}
+use Rattle.rules.specs.Response.{ak4}
+use Rattle.writing.proofs.Laws.{kept}
+use Rattle.writing.proofs.Segments.{begin, more, end}
+use Rattle.notes.proofs.add_ak4.Goals as goal
+
+pub returns : goal.returns
+unfolding ak4
+returns c =
+    end (more (more (more (more (begin _ c.add_bytes-n.ensures) _ c.add_count-n.ensures) _ c.add_optional-n.ensures) _ c.add_count-n-2.ensures) _ (rw c.part-echo.ensures at c.add_trailing-n.ensures)) c.add_byte.ensures

@@ -1,0 +1,15 @@
+-- `notes::add_findings` meets its contract.
+use mathlib.Core.List.{map}
+use Rattle.rules.specs.Response.{ak4}
+use Rattle.elements.specs.Checks.{findings_from}
+use Rattle.notes.proofs.Laws.{weight, weight_less, found_more}
+use Rattle.notes.proofs.Sofar.{Sofar, begin, onward, ends}
+use borrow.Author.Rules.{rules}
+use native.Mathlib.Omega.{arith}
+use Rattle.notes.proofs.add_findings.Given as goal
+
+abbrev pub invariant-loop-next : goal.invariant-loop-next
+invariant-loop-next l = Sofar l.d l.initial.sum (map ak4 (findings_from l.d l.s l.guide l.initial.next)) (map ak4 (findings_from l.d l.s l.guide l.next)) l.sum l.initial.out l.out
+
+abbrev pub decreases-loop-next : goal.decreases-loop-next
+decreases-loop-next l = weight l.d l.s l.guide l.next

@@ -1,0 +1,6 @@
+-- `notes::one_more` meets its contract.
+use borrow.Author.Rules.{rules}
+use Rattle.notes.proofs.one_more.Goals as goal
+
+pub returns : goal.returns
+returns c = rw c.joined.ensures
