@@ -29,7 +29,7 @@ bucket_end s i n h = rw (drop_of_length-le s {i = i} h)
 bucket_from_below : (n : ℕ) (c : Bytes) → n < 1024 → bucket_from n c < 1024
 unfolding bucket_from
 bucket_from_below n [] h = h
-bucket_from_below n (b ∷ bs) h = bucket_from_below _ bs (mod-lt _ (omega arith))
+bucket_from_below n (b ∷ bs) h = bucket_from_below ((n * 10 + b) % 1024) bs (mod-lt _ (omega arith))
 
 pub bucket_below : (c : Bytes) → bucket_of c < 1024
 bucket_below c = bucket_from_below 0 c (omega arith)

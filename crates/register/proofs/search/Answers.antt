@@ -15,23 +15,48 @@ use Rattle.register.proofs.Fields.{value_longer, value_differs, value_turn, valu
 use Rattle.register.proofs.Trees.{bits_below, walk_ends, search_step}
 use native.Mathlib.Omega.{arith}
 use Rattle.register.proofs.search.Goals as goal
+use Rattle.register.proofs.search.Goals.{After-link_at-link, After-bits_at, After-field_end}
+
+-- a link has sixteen bits
+small : (c : After-link_at-link) → c.link_at-link.result < 65536
+small c = omega (arith, c.link_at-link.ensures, c.shared_slice_known-3-1.given c.sets.slot)
+
+bit : (c : After-bits_at) → c.bits_at.result < 4
+bit c = rw c.bits_at.ensures (bits_below _ _)
 
 -- one turn: the number is that of the set, as q says
-abbrev Turn : Bool → tie.After-bits-at invariant-loop decreases-loop invariant-sets decreases-sets → Type 0
+abbrev Turn : Bool → After-bits_at → Type 0
 Turn q c =
-    let head = c.before.before.before.before.before in
-    let a = head.before.before.before.before.before.before.args in
-    let s = head.sets in
-    let link = c.before.before.before.before.link_at.result in
+    let a = c.args in
+    let s = c.sets in
+    let link = c.link_at-link.result in
     trees.search a.d a.body.now a.first a.starts.now a.links.now a.control.now
     ≡ trees.found_at false q s.slot (trees.walk (65536 - (s.i + 1)) a.d a.body.now a.first a.starts.now a.links.now a.control.now (trees.slot_of (link - 1) c.bits_at.result) link (s.i + 1))
 
-turn : (q : Bool) (c : tie.After-bits-at invariant-loop decreases-loop invariant-sets decreases-sets)
-    → (let head = c.before.before.before.before.before in let a = head.before.before.before.before.before.before.args in same a.control.now (field_in a.d 0 (drop c.before.control-start.result a.body.now)) ≡ q) → Turn q c
-turn q c e =
-    let head = c.before.before.before.before.before in
-    head.sets.invariant.2
-    ∙ search_step _ _ _ _ _ _ _ q (small c.before.before.before.before) head.sets.invariant.1 c.before.before.before.if1.false c.before.before.before.before.link_at.ensures c.bits_at.ensures c.before.before.start-at.ensures (sym c.before.control-start.ensures.1) e
+turn : (q : Bool) (c : After-bits_at) → c.link_at-link.result < 65536
+    → same c.args.control.now (field_in c.args.d 0 (drop c.control_start-start.result c.args.body.now)) ≡ q → Turn q c
+turn q c few e =
+    c.sets.invariant.2
+    ∙ search_step _ _ _ _ _ _ _ q few c.sets.invariant.1 c.if-link-last.false c.link_at-link.ensures c.bits_at.ensures c.start_at.ensures (sym c.control_start-start.ensures.1) e
+
+-- the search goes on after a set with another number
+abbrev Goes : After-bits_at → Type 0
+Goes c =
+    let a = c.args in
+    let s = c.sets in
+    let link = c.link_at-link.result in
+    (s.found-1 ≡ Repeated) × (s.i + 1 ≤ link) × (trees.search a.d a.body.now a.first a.starts.now a.links.now a.control.now ≡ trees.walk (65536 - (s.i + 1)) a.d a.body.now a.first a.starts.now a.links.now a.control.now (trees.slot_of (link - 1) c.bits_at.result) link (s.i + 1)) × (a.first ≤ link)
+
+goes : (c : After-bits_at) → c.link_at-link.result < 65536
+    → same c.args.control.now (field_in c.args.d 0 (drop c.control_start-start.result c.args.body.now)) ≡ false → Goes c
+goes c few e = (c.sets.invariant.0, omega (arith, few), turn false c few e, omega (arith, c.sets.invariant.3))
+
+-- all bytes are those of the number: it is the same where the field ends after them
+compared : (c : After-field_end)
+    → same c.args.control.now (field_in c.args.d 0 (drop c.control_start-start.result c.args.body.now)) ≡ eqb c.field_end.result (c.control_start-start.result + length c.args.control.now)
+compared c =
+    let a = c.args in
+    rw c.field_end.ensures (value_ends a.d a.body.now c.control_start-start.result a.control.now _ c.loop-j-test.false c.loop-j.invariant.1)
 
 pub sets-init : goal.sets-init
 unfolding trees.search
@@ -41,27 +66,27 @@ pub overflow_sub-k-in-sets : goal.overflow_sub-k-in-sets
 overflow_sub-k-in-sets c = omega (arith, c.sets.invariant.3)
 
 pub overflow_mul-slot : goal.overflow_mul-slot
-overflow_mul-slot c = omega (arith, (let small' : c.link_at-link.result < 65536 = omega (arith, c.link_at-link.ensures, c.shared_slice_known-3-1.given c.sets.slot) in small'))
+overflow_mul-slot c = omega (arith, small (goal.at.overflow_mul-slot c).After-link_at-link)
 
 pub overflow_add-slot : goal.overflow_add-slot
-overflow_add-slot c = omega (arith, (let small' : c.link_at-link.result < 65536 = omega (arith, c.link_at-link.ensures, c.shared_slice_known-3-1.given c.sets.slot) in small'))
+overflow_add-slot c = omega (arith, small (goal.at.overflow_add-slot c).After-link_at-link)
 
 pub overflow_add-slot-in-sets : goal.overflow_add-slot-in-sets
-overflow_add-slot-in-sets c = omega (arith, (let small' : c.link_at-link.result < 65536 = omega (arith, c.link_at-link.ensures, c.shared_slice_known-3-1.given c.sets.slot) in small'), (let bit' : c.bits_at.result < 4 = rw c.bits_at.ensures (bits_below _ _) in bit'))
+overflow_add-slot-in-sets c = omega (arith, small (goal.at.overflow_add-slot-in-sets c).After-link_at-link, bit (goal.at.overflow_add-slot-in-sets c).After-bits_at)
 
 pub overflow_add-i : goal.overflow_add-i
-overflow_add-i c = omega (arith, (let small' : c.link_at-link.result < 65536 = omega (arith, c.link_at-link.ensures, c.shared_slice_known-3-1.given c.sets.slot) in small'))
+overflow_add-i c = omega (arith, small (goal.at.overflow_add-i c).After-link_at-link)
 
 pub overflow_sub-body : goal.overflow_sub-body
 overflow_sub-body c = omega (arith, c.control_start-start.ensures.0)
 
 pub sets-smaller-then-body-start : goal.sets-smaller-then-body-start
-sets-smaller-then-body-start c = omega (arith, (let small' : c.link_at-link.result < 65536 = omega (arith, c.link_at-link.ensures, c.shared_slice_known-3-1.given c.sets.slot) in small'))
+sets-smaller-then-body-start c = omega (arith, small (goal.at.sets-smaller-then-body-start c).After-link_at-link)
 
 pub sets-preserved-then-body-start : goal.sets-preserved-then-body-start
 sets-preserved-then-body-start c =
     let a = c.args in
-    (let goes' : (let a = c.args in same a.control.now (field_in a.d 0 (drop c.control_start-start.result a.body.now)) ≡ false) → (let a = c.args in let s = c.sets in let link = c.link_at-link.result in (s.found ≡ Repeated) × (s.i + 1 ≤ link) × (trees.search a.d a.body.now a.first a.starts.now a.links.now a.control.now ≡ trees.walk (65536 - (s.i + 1)) a.d a.body.now a.first a.starts.now a.links.now a.control.now (trees.slot_of (link - 1) c.bits_at.result) link (s.i + 1)) × (a.first ≤ link)) = λ e. (c.sets.invariant.0, omega (arith, (let small' : c.link_at-link.result < 65536 = omega (arith, c.link_at-link.ensures, c.shared_slice_known-3-1.given c.sets.slot) in small')), turn false «c» e, omega (arith, c.sets.invariant.3)) in goes') (value_longer a.d a.body.now c.control_start-start.result a.control.now c.if-body-start.true)
+    goes (goal.at.sets-preserved-then-body-start c).After-bits_at (small (goal.at.sets-preserved-then-body-start c).After-link_at-link) (value_longer a.d a.body.now c.control_start-start.result a.control.now c.if-body-start.true)
 
 pub loop-j-init : goal.loop-j-init
 loop-j-init c =
@@ -69,13 +94,13 @@ loop-j-init c =
     (omega arith, rw (drop_of_length-le control {i = length control} (omega arith), sub_self) refl)
 
 pub sets-smaller-then-body-start-2 : goal.sets-smaller-then-body-start-2
-sets-smaller-then-body-start-2 c = omega (arith, (let small' : c.link_at-link.result < 65536 = omega (arith, c.link_at-link.ensures, c.shared_slice_known-3-1.given c.sets.slot) in small'))
+sets-smaller-then-body-start-2 c = omega (arith, small (goal.at.sets-smaller-then-body-start-2 c).After-link_at-link)
 
 pub sets-preserved-then-body-start-2 : goal.sets-preserved-then-body-start-2
 sets-preserved-then-body-start-2 c =
     let l = c.loop-j in
     let a = c.args in
-    (let goes' : (let a = c.args in same a.control.now (field_in a.d 0 (drop c.control_start-start.result a.body.now)) ≡ false) → (let a = c.args in let s = c.sets in let link = c.link_at-link.result in (s.found ≡ Repeated) × (s.i + 1 ≤ link) × (trees.search a.d a.body.now a.first a.starts.now a.links.now a.control.now ≡ trees.walk (65536 - (s.i + 1)) a.d a.body.now a.first a.starts.now a.links.now a.control.now (trees.slot_of (link - 1) c.bits_at.result) link (s.i + 1)) × (a.first ≤ link)) = λ e. (c.sets.invariant.0, omega (arith, (let small' : c.link_at-link.result < 65536 = omega (arith, c.link_at-link.ensures, c.shared_slice_known-3-1.given c.sets.slot) in small')), turn false «c» e, omega (arith, c.sets.invariant.3)) in goes') (value_differs a.d a.body.now c.control_start-start.result a.control.now (l.j - 1) (omega (arith, l.invariant.0)) c.if-body-start-2.true)
+    goes (goal.at.sets-preserved-then-body-start-2 c).After-bits_at (small (goal.at.sets-preserved-then-body-start-2 c).After-link_at-link) (value_differs a.d a.body.now c.control_start-start.result a.control.now (l.j - 1) (omega (arith, l.invariant.0)) c.if-body-start-2.true)
 
 pub loop-j-preserved : goal.loop-j-preserved
 loop-j-preserved c =
@@ -84,14 +109,14 @@ loop-j-preserved c =
     (omega (arith, l.invariant.0), value_turn a.d a.body.now c.control_start-start.result a.control.now l.j (l.j - 1) (omega arith) l.invariant.0 c.if-body-start.false c.if-body-start-2.false l.invariant.1)
 
 pub sets-smaller : goal.sets-smaller
-sets-smaller c = omega (arith, (let small' : c.link_at-link.result < 65536 = omega (arith, c.link_at-link.ensures, c.shared_slice_known-3-1.given c.sets.slot) in small'))
+sets-smaller c = omega (arith, small (goal.at.sets-smaller c).After-link_at-link)
 
 pub sets-preserved : goal.sets-preserved
-sets-preserved c = (let goes' : (let a = c.args in same a.control.now (field_in a.d 0 (drop c.control_start-start.result a.body.now)) ≡ false) → (let a = c.args in let s = c.sets in let link = c.link_at-link.result in (s.found ≡ Repeated) × (s.i + 1 ≤ link) × (trees.search a.d a.body.now a.first a.starts.now a.links.now a.control.now ≡ trees.walk (65536 - (s.i + 1)) a.d a.body.now a.first a.starts.now a.links.now a.control.now (trees.slot_of (link - 1) c.bits_at.result) link (s.i + 1)) × (a.first ≤ link)) = λ e. (c.sets.invariant.0, omega (arith, (let small' : c.link_at-link.result < 65536 = omega (arith, c.link_at-link.ensures, c.shared_slice_known-3-1.given c.sets.slot) in small')), turn false «c» e, omega (arith, c.sets.invariant.3)) in goes') ((let compared' : (let a = c.args in let start = c.control_start-start.result in let earlier = field_in a.d 0 (drop start a.body.now) in same a.control.now earlier ≡ eqb c.field_end.result (start + length a.control.now)) = let a = c.args in rw c.field_end.ensures (value_ends a.d a.body.now c.control_start-start.result a.control.now _ c.loop-j-test.false c.loop-j.invariant.1) in compared') ∙ ne_eqb _ _ c.if-field_end-start.true)
+sets-preserved c = goes (goal.at.sets-preserved c).After-bits_at (small (goal.at.sets-preserved c).After-link_at-link) (compared (goal.at.sets-preserved c).After-field_end ∙ ne_eqb _ _ c.if-field_end-start.true)
 
 pub returns-then-link-last : goal.returns-then-link-last
 returns-then-link-last c = sym (c.sets.invariant.2 ∙ walk_ends _ _ _ _ _ _ _ _ _ _ (rw c.link_at-link.ensures at c.if-link-last.true))
 
 pub returns-else-field_end-start : goal.returns-else-field_end-start
 returns-else-field_end-start c =
-    c.sets.invariant.0 ∙ sym (turn true «t» ((let compared' : (let a = c.args in let start = c.control_start-start.result in let earlier = field_in a.d 0 (drop start a.body.now) in same a.control.now earlier ≡ eqb c.field_end.result (start + length a.control.now)) = let a = c.args in rw c.field_end.ensures (value_ends a.d a.body.now c.control_start-start.result a.control.now _ c.loop-j-test.false c.loop-j.invariant.1) in compared') ∙ eq-eqb _ _ c.if-field_end-start.false))
+    c.sets.invariant.0 ∙ sym (turn true (goal.at.returns-else-field_end-start c).After-bits_at (small (goal.at.returns-else-field_end-start c).After-link_at-link) (compared (goal.at.returns-else-field_end-start c).After-field_end ∙ eq-eqb _ _ c.if-field_end-start.false))
