@@ -12,7 +12,7 @@ abbrev pub invariant-loop-further : goal.invariant-loop-further
 invariant-loop-further l =
     (l.c.segments ≤ l.c.at)
     × (l.c.at ≤ length l.body + 1)
-    × (look_from l.valid l.d l.guide l.body l.at l.header (length l.body) (record { l.at = l.header + 1; row = 0; used = 1; l.next = l.next; segments = 1 })
+    × (look_from l.valid l.d l.guide l.body l.at l.header (length l.body) (record { at = l.header + 1; row = 0; used = 1; next = l.next; segments = 1 })
     ≡ look_at l.valid l.d l.guide l.body l.at l.header l.c)
 
 abbrev pub decreases-loop-further : goal.decreases-loop-further

@@ -8,6 +8,7 @@ use borrow.Author.Tests.{not-true, not-false}
 use lib.ListN.{length}
 use Rattle.look.proofs.Reading.{ReadTo, Ended, ended_segment, ended_past, field_ends, read_over, read_broken, read_taken, read_refused, read_ended}
 use Rattle.look.proofs.segment.pass.Goals as goal
+use Rattle.look.proofs.segment.pass.Goals.{then-is_element+else-not-is_taken, else-is_element+else-breaks_note, then-loop-k-test+then-is_segment, else-loop-k-test}
 
 pub loop-k-init : goal.loop-k-init
 loop-k-init c =
@@ -35,13 +36,23 @@ returns-then-breaks_note c =
 pub loop-k-preserved : goal.loop-k-preserved
 loop-k-preserved c =
     let other = sym c.is_segment.ensures ∙ c.if-is_segment.false in
-    ⊎_elim
-    (λ w. rw w.6 (read_taken c.loop-k.invariant w.1.ensures w.2.ensures c.loop-k-test.true other (sym c.is_element.ensures ∙ w.0.taken) w.3.ensures (not-false _ w.4.left) (w.7 ∙ w.5.ensures)))
-    (λ w. rw (w.3, w.4) (read_over c.loop-k.invariant c.loop-k-test.true other (sym c.is_element.ensures ∙ w.0.left) w.1.ensures w.2.left))
-    c.if-is_element.branch
+    elim c.if-is_element.branch [
+      then-is_element+else-not-is_taken w ↦ rw w.end-is (read_taken c.loop-k.invariant w.start_after-start.ensures w.find_invalid-end.ensures c.loop-k-test.true other (sym c.is_element.ensures ∙ w.if-is_element.true) w.is_taken.ensures w.if-not-is_taken.false (w.marks-is ∙ w.with-marks.ensures))
+    | else-is_element+else-breaks_note w ↦ rw (w.end-is, w.marks-is) (read_over c.loop-k.invariant c.loop-k-test.true other (sym c.is_element.ensures ∙ w.if-is_element.false) w.breaks_note.ensures w.if-breaks_note.false)
+    ]
 
 pub returns-then-not-is_over : goal.returns-then-not-is_over
-returns-then-not-is_over c = sym (read_ended c.loop-k.invariant ((let ended' : Ended c.args.guide.now c.loop-k.k = ⊎_elim (λ w. ended_past _ _ w.left) (λ w. ended_segment _ _ (sym w.1.ensures ∙ w.2.taken)) c.loop-k-test.branch in ended')) c.is_over.ensures ∙ rw c.if-not-is_over.true)
+returns-then-not-is_over c =
+    let ended : Ended c.args.guide.now c.loop-k.k = elim c.loop-k-test.branch [
+      else-loop-k-test w ↦ ended_past _ _ w.loop-k-test.false
+    | then-loop-k-test+then-is_segment w ↦ ended_segment _ _ (sym w.is_segment.ensures ∙ w.if-is_segment.true)
+    ] in
+    sym (read_ended c.loop-k.invariant ended c.is_over.ensures ∙ rw c.if-not-is_over.true)
 
 pub returns : goal.returns
-returns c = sym (read_ended c.loop-k.invariant ((let ended' : Ended c.args.guide.now c.loop-k.k = ⊎_elim (λ w. ended_past _ _ w.left) (λ w. ended_segment _ _ (sym w.1.ensures ∙ w.2.taken)) c.loop-k-test.branch in ended')) c.is_over.ensures ∙ rw c.if-not-is_over.false)
+returns c =
+    let ended : Ended c.args.guide.now c.loop-k.k = elim c.loop-k-test.branch [
+      else-loop-k-test w ↦ ended_past _ _ w.loop-k-test.false
+    | then-loop-k-test+then-is_segment w ↦ ended_segment _ _ (sym w.is_segment.ensures ∙ w.if-is_segment.true)
+    ] in
+    sym (read_ended c.loop-k.invariant ended c.is_over.ensures ∙ rw c.if-not-is_over.false)
