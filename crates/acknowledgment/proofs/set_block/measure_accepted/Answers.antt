@@ -1,0 +1,6 @@
+-- `acknowledgment::set_block::measure_accepted` meets its contract.
+use borrow.Author.Rules.{rules}
+use Rattle.acknowledgment.proofs.set_block.measure_accepted.Goals as goal
+
+pub returns : goal.returns
+returns c = rw c.joined.ensures

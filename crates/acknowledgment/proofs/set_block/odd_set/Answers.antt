@@ -1,0 +1,6 @@
+-- `acknowledgment::set_block::odd_set` meets its contract.
+use borrow.Author.Rules.{rules}
+use Rattle.acknowledgment.proofs.set_block.odd_set.Goals as goal
+
+pub returns : goal.returns
+returns c = rw c.next_set.ensures

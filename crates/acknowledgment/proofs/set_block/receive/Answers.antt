@@ -1,0 +1,6 @@
+-- `acknowledgment::set_block::receive` meets its contract.
+use borrow.Author.Rules.{rules}
+use Rattle.acknowledgment.proofs.set_block.receive.Goals as goal
+
+pub returns : goal.returns
+returns c = rw (c.table_of-table.ensures, c.field.ensures, c.part-header.ensures)

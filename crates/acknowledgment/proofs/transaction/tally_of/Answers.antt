@@ -1,0 +1,30 @@
+-- `acknowledgment::transaction::tally_of` meets its contract: what is counted of the marks that are left decides.
+use Prim.Native.Nat.{◌-◌, ◌≤◌}
+use mathlib.Core.Logic.{⊎_elim}
+use mathlib.Core.Path.{◌≡◌, refl, sym, ◌∙◌}
+use native.Mathlib.Omega.{arith}
+use borrow.Author.Tests.{eq-eqb, ne_eqb}
+use lib.ListN.{length, drop}
+use Rattle.acknowledgment.specs.Surveys.{tally_from, tally_of}
+use Rattle.acknowledgment.proofs.Recorded.{tally_mark, tally_stops, tally_none}
+use borrow.Author.Rules.{rules}
+use Rattle.acknowledgment.proofs.transaction.tally_of.Goals as goal
+
+pub loop-received-init : goal.loop-received-init
+loop-received-init c = (refl, omega arith)
+
+pub loop-received-preserved : goal.loop-received-preserved
+loop-received-preserved c =
+    let inv = c.loop-received.invariant in (
+      inv.0
+          ∙ tally_mark _ _ _ c.loop-received-test.true (ne_eqb _ _ c.if-mark-eq-GROUP_END.false)
+          (⊎_elim (λ w. rw w.0.taken w.1) (λ w. rw (ne_eqb _ 0 w.0.left) w.1) c.if-mark-eq-ACCEPTED.branch),
+      ⊎_elim (λ w. omega (arith, w.1, inv.1)) (λ w. omega (arith, w.1, inv.1)) c.if-mark-eq-ACCEPTED.branch,
+    )
+
+pub returns-after-loop-received : goal.returns-after-loop-received
+returns-after-loop-received c = sym (c.loop-received.invariant.0 ∙ tally_none _ _ _ c.loop-received-test.false)
+
+pub returns-then-mark-eq-GROUP_END : goal.returns-then-mark-eq-GROUP_END
+returns-then-mark-eq-GROUP_END c =
+    sym (c.loop-received.invariant.0 ∙ tally_stops _ _ _ c.loop-received-test.true (eq-eqb _ _ c.if-mark-eq-GROUP_END.true))

@@ -1,0 +1,9 @@
+-- `acknowledgment::transaction::transaction_length` meets its contract: the lengths of its parts.
+use Rattle.acknowledgment.proofs.Transactions.{length_made}
+use borrow.Author.Rules.{rules}
+use Rattle.acknowledgment.proofs.transaction.transaction_length.Goals as goal
+
+pub returns : goal.returns
+returns c =
+    λ ss m.
+    length_made _ _ ss _ c.add_beginning-n.ensures.count m.text.count c.joined-n.ensures c.add_ending.ensures.count
