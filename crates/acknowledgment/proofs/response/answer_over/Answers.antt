@@ -19,12 +19,12 @@ returns-then-out-needed c =
 -- the directory and the rows are as long as they were
 pub slice_bounds-add_transactions-end : goal.slice_bounds-add_transactions-end
 slice_bounds-add_transactions-end c =
-    let made = c.directory-directory.type-inv in
+    let made = c.directory-directory.type_inv in
     search rules
 
 pub slice_bounds-add_transactions-end-in-Sound : goal.slice_bounds-add_transactions-end-in-Sound
 slice_bounds-add_transactions-end-in-Sound c =
-    let made = c.rows-rows.type-inv in
+    let made = c.rows-rows.type_inv in
     search rules
 
 pub add_transactions-n-requires : goal.add_transactions-n-requires

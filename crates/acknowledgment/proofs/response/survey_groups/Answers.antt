@@ -11,7 +11,7 @@ pub loop-groups-init : goal.loop-groups-init
 loop-groups-init c = surveying_start c.requires
 
 pub offset_bounds-starts-entries : goal.offset_bounds-starts-entries
-offset_bounds-starts-entries c = omega (arith, (omega (arith, entries_inside c.loop-groups.invariant c.loop-groups-test.true c.requires.sound (sym c.check_group.ensures ∙ c.in-Sound.is))), c.loop-groups.invariant.few)
+offset_bounds-starts-entries c = omega (arith, entries_inside c.loop-groups.invariant c.loop-groups-test.true c.requires.sound (sym c.check_group.ensures ∙ c.in-Sound.is), c.loop-groups.invariant.few)
 
 -- the entries of a group that is not refused start inside
 pub slice_bounds-survey_group-count : goal.slice_bounds-survey_group-count
@@ -19,19 +19,19 @@ slice_bounds-survey_group-count c =
     omega (arith, entries_inside c.loop-groups.invariant c.loop-groups-test.true c.requires.sound (sym c.check_group.ensures ∙ c.in-Sound.is))
 
 pub slice_bounds-survey_group-start : goal.slice_bounds-survey_group-start
-slice_bounds-survey_group-start c = omega (arith, (omega (arith, entries_inside c.loop-groups.invariant c.loop-groups-test.true c.requires.sound (sym c.check_group.ensures ∙ c.in-Sound.is))))
+slice_bounds-survey_group-start c = omega (arith, entries_inside c.loop-groups.invariant c.loop-groups-test.true c.requires.sound (sym c.check_group.ensures ∙ c.in-Sound.is))
 
 pub slice_bounds-survey_group-end : goal.slice_bounds-survey_group-end
-slice_bounds-survey_group-end c = omega (arith, (omega (arith, entries_inside c.loop-groups.invariant c.loop-groups-test.true c.requires.sound (sym c.check_group.ensures ∙ c.in-Sound.is))))
+slice_bounds-survey_group-end c = omega (arith, entries_inside c.loop-groups.invariant c.loop-groups-test.true c.requires.sound (sym c.check_group.ensures ∙ c.in-Sound.is))
 
 pub slice_bounds-survey_group-count-in-Sound : goal.slice_bounds-survey_group-count-in-Sound
-slice_bounds-survey_group-count-in-Sound c = omega (arith, (omega (arith, entries_inside c.loop-groups.invariant c.loop-groups-test.true c.requires.sound (sym c.check_group.ensures ∙ c.in-Sound.is))), c.loop-groups.invariant.marked)
+slice_bounds-survey_group-count-in-Sound c = omega (arith, entries_inside c.loop-groups.invariant c.loop-groups-test.true c.requires.sound (sym c.check_group.ensures ∙ c.in-Sound.is), c.loop-groups.invariant.marked)
 
 pub slice_bounds-survey_group-start-in-Sound : goal.slice_bounds-survey_group-start-in-Sound
-slice_bounds-survey_group-start-in-Sound c = omega (arith, (omega (arith, entries_inside c.loop-groups.invariant c.loop-groups-test.true c.requires.sound (sym c.check_group.ensures ∙ c.in-Sound.is))), c.loop-groups.invariant.marked)
+slice_bounds-survey_group-start-in-Sound c = omega (arith, entries_inside c.loop-groups.invariant c.loop-groups-test.true c.requires.sound (sym c.check_group.ensures ∙ c.in-Sound.is), c.loop-groups.invariant.marked)
 
 pub slice_bounds-survey_group-end-in-Sound : goal.slice_bounds-survey_group-end-in-Sound
-slice_bounds-survey_group-end-in-Sound c = omega (arith, (omega (arith, entries_inside c.loop-groups.invariant c.loop-groups-test.true c.requires.sound (sym c.check_group.ensures ∙ c.in-Sound.is))), c.loop-groups.invariant.marked)
+slice_bounds-survey_group-end-in-Sound c = omega (arith, entries_inside c.loop-groups.invariant c.loop-groups-test.true c.requires.sound (sym c.check_group.ensures ∙ c.in-Sound.is), c.loop-groups.invariant.marked)
 
 pub survey_group-survey-requires : goal.survey_group-survey-requires
 survey_group-survey-requires c =

@@ -14,13 +14,13 @@ use Rattle.acknowledgment.proofs.Surveys.{Seeing, seeing_start, seeing_set, seei
 use Rattle.acknowledgment.proofs.Turns.{Sofar, sofar_start}
 use borrow.Author.Rules.{rules}
 use Rattle.acknowledgment.proofs.survey.survey_sets.Goals as goal
-use Rattle.acknowledgment.proofs.survey.survey_sets.Goals.{In-loop-at}
+use Rattle.acknowledgment.proofs.survey.survey_sets.Goals.{In-loop-at, then-set-eq-ACCEPTED, else-set-eq-ACCEPTED}
 
 set : (c : In-loop-at) → (let a = c.args in SetIs a.reading.delimiters a.body.now c.loop-at.at (set_at a.reading.delimiters a.body.now c.loop-at.at))
 set c = seeing_set c.loop-at.invariant.0 c.loop-at-test.true refl
 
 room : (c : In-loop-at) → (let l = c.loop-at in let a = c.args in (a.first + l.received < 65534) × ((l.received < lists.length l.starts) × (l.received < lists.length l.marks)))
-room c = seeing_room c.loop-at.invariant.0 ((let set' : (let a = c.args in SetIs a.reading.delimiters a.body.now c.loop-at.at (set_at a.reading.delimiters a.body.now c.loop-at.at)) = seeing_set c.loop-at.invariant.0 c.loop-at-test.true refl in set'))
+room c = seeing_room c.loop-at.invariant.0 (set c)
 
 pub loop-at-init : goal.loop-at-init
 loop-at-init c =
@@ -72,8 +72,8 @@ loop-at-preserved c =
     let is = c.survey_set-set.ensures in (
       rw is.ends
           (seeing_turn sofar.0 inside enters is.marked
-          (⊎_elim (λ w. rw w.0.taken w.1) (λ w. rw (ne_eqb _ 0 w.0.left) w.1) c.if-set-eq-ACCEPTED.branch) (search rules)),
-      seeing_measured sofar.0 inside (seeing_marked sofar.0 inside enters is.marked) (is.decreases _ (seeing_used sofar.0 inside enters))
+          (elim c.if-set-eq-ACCEPTED.branch [ then-set-eq-ACCEPTED w ↦ rw w.if-set-eq-ACCEPTED.true w.accepted-is | else-set-eq-ACCEPTED w ↦ rw (ne_eqb _ 0 w.if-set-eq-ACCEPTED.false) w.accepted-is ]) (search rules)),
+      seeing_measured sofar.0 inside (seeing_marked sofar.0 inside enters is.marked) (is.measured _ (seeing_used sofar.0 inside enters))
           c.joined-length.ensures c.joined-segments.ensures sofar.1,
       search rules ∙ sofar.2,
       search rules ∙ sofar.3,

@@ -17,7 +17,7 @@ use Rattle.acknowledgment.proofs.survey.survey_sets.Given as goal
 
 abbrev pub invariant-loop-at : goal.invariant-loop-at
 invariant-loop-at l =
-    table_by l.directory l.rows l.reading.scope in
+    let table = table_by l.directory l.rows l.reading.scope in
     (Seeing l.reading.delimiters table l.body l.first l.starts l.marks l.links l.received l.accepted l.at)
     × (Sofar l.reading.delimiters (reports l.reading.delimiters table l.body) [] [] l.length l.segments l.received)
     × (lists.length l.links ≡ lists.length l.initial.links)

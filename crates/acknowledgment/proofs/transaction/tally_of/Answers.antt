@@ -9,6 +9,7 @@ use Rattle.acknowledgment.specs.Surveys.{tally_from, tally_of}
 use Rattle.acknowledgment.proofs.Recorded.{tally_mark, tally_stops, tally_none}
 use borrow.Author.Rules.{rules}
 use Rattle.acknowledgment.proofs.transaction.tally_of.Goals as goal
+use Rattle.acknowledgment.proofs.transaction.tally_of.Goals.{then-mark-eq-ACCEPTED, else-mark-eq-ACCEPTED}
 
 pub loop-received-init : goal.loop-received-init
 loop-received-init c = (refl, omega arith)
@@ -18,8 +19,8 @@ loop-received-preserved c =
     let inv = c.loop-received.invariant in (
       inv.0
           ∙ tally_mark _ _ _ c.loop-received-test.true (ne_eqb _ _ c.if-mark-eq-GROUP_END.false)
-          (⊎_elim (λ w. rw w.0.taken w.1) (λ w. rw (ne_eqb _ 0 w.0.left) w.1) c.if-mark-eq-ACCEPTED.branch),
-      ⊎_elim (λ w. omega (arith, w.1, inv.1)) (λ w. omega (arith, w.1, inv.1)) c.if-mark-eq-ACCEPTED.branch,
+          (elim c.if-mark-eq-ACCEPTED.branch [ then-mark-eq-ACCEPTED w ↦ rw w.if-mark-eq-ACCEPTED.true w.accepted-is | else-mark-eq-ACCEPTED w ↦ rw (ne_eqb _ 0 w.if-mark-eq-ACCEPTED.false) w.accepted-is ]),
+      (elim c.if-mark-eq-ACCEPTED.branch [ then-mark-eq-ACCEPTED w ↦ omega (arith, w.accepted-is, inv.1) | else-mark-eq-ACCEPTED w ↦ omega (arith, w.accepted-is, inv.1) ]),
     )
 
 pub returns-after-loop-received : goal.returns-after-loop-received
