@@ -1,0 +1,19 @@
+-- `exchange::exchange` meets its contract.
+use mathlib.Core.Path.{sym, ◌∙◌}
+use native.Mathlib.Omega.{arith}
+use borrow.Author.Rules.{rules}
+use Rattle.exchange.proofs.FirstLine.{starts_within, rest}
+use Rattle.exchange.proofs.Laws.{exchanged}
+use Rattle.exchange.proofs.exchange.Goals as goal
+
+pub slice_bounds-print_answer-count : goal.slice_bounds-print_answer-count
+slice_bounds-print_answer-count c = starts_within _ (sym c.in-Numbers.is ∙ c.call_of.ensures)
+
+pub slice_bounds-print_answer-start : goal.slice_bounds-print_answer-start
+slice_bounds-print_answer-start c = starts_within _ (sym c.in-Numbers.is ∙ c.call_of.ensures)
+
+pub returns-in-Numbers : goal.returns-in-Numbers
+returns-in-Numbers c = exchanged _ _ (sym c.in-Numbers.is ∙ c.call_of.ensures) (rw rest at c.print_answer.ensures) (omega arith)
+
+pub returns-in-Bad : goal.returns-in-Bad
+returns-in-Bad c = exchanged _ _ (sym c.in-Bad.is ∙ c.call_of.ensures) c.put_refused.ensures (omega arith)

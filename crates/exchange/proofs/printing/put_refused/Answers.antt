@@ -1,0 +1,10 @@
+-- `exchange::printing::put_refused` meets its contract: a row of pieces.
+use borrow.Author.Rules.{rules}
+use Rattle.rules.specs.Program.{refused_text}
+use Rattle.writing.proofs.Laws.{seq, whole, stays}
+use Rattle.exchange.proofs.printing.put_refused.Goals as goal
+
+pub returns : goal.returns
+unfolding refused_text
+returns c =
+    whole (seq (seq c.add_bytes-n.ensures c.add_number-n.ensures) c.add_byte.ensures)
