@@ -3,9 +3,9 @@ use Rattle.std.specs.Prelude.{ℕ, Bool, true, false, List, [], ◌∷◌}
 use Rattle.std.proofs.Math.Option.{Option, none, some}
 use Rattle.rules.specs.Base.{Bytes, ascii, same, if◌then◌else◌}
 use Rattle.rules.specs.declared.Kind.{Kind}
-use Rattle.rules.specs.declared.Kind.TheVariants.{AN, ID, N0, DT, TM}
+use Rattle.rules.specs.declared.Kind.TheVariants.{AN, ID, N0, DT}
 use Rattle.rules.specs.declared.Relation.{Relation}
-use Rattle.rules.specs.declared.Relation.TheVariants.{P, R, E, C, L}
+use Rattle.rules.specs.declared.Relation.TheVariants.{P, R}
 
 -- the row of an element; where codes are listed, the value is one of them
 pub record Row : Type 0 where

@@ -1,5 +1,5 @@
 -- `rules::Delimiters::separates_repetitions` meets its contract.
-use Rattle.std.proofs.Common.{◌≡◌, eqb, sym}
+use Rattle.std.proofs.Common.{eqb, sym}
 use Rattle.rules.specs.Base.{any}
 use Rattle.rules.specs.Cutting.{separates_repetitions}
 use Rattle.rules.proofs.Logic.{or_none}
