@@ -1,10 +1,5 @@
 -- `text::all_digits` meets its contract.
-use Prim.Native.Nat.{◌-◌}
-use mathlib.Core.Path.{◌≡◌, sym, ◌∙◌}
-use borrow.Author.Rules.{rules}
-use borrow.Author.Tests.{not-true, not-false}
-use lib.ListN.{length, drop}
-use Rattle.rules.specs.Base.{all, is_digit}
+use mathlib.Core.Path.{sym, ◌∙◌}
 use Rattle.text.proofs.Loops.{all_step, all_end}
 use Rattle.text.proofs.all_digits.Goals as goal
 

@@ -1,13 +1,10 @@
 -- `text::all_valid` meets its contract.
 use Prim.Native.Nat.{◌-◌}
-use mathlib.Core.Path.{◌≡◌, sym, ◌∙◌}
+use mathlib.Core.Path.{◌≡◌}
 use mathlib.Core.Bool.{◌&&◌}
-use native.Mathlib.Omega.{arith}
-use borrow.Author.Rules.{rules}
 use lib.ListN.{length, drop}
 use Rattle.rules.specs.Base.{all}
 use Rattle.rules.specs.Cutting.{valid}
-use Rattle.text.proofs.Loops.{and_true, and_assoc, all_step, all_end}
 use Rattle.text.proofs.all_valid.Given as goal
 
 abbrev pub invariant-loop-i : goal.invariant-loop-i

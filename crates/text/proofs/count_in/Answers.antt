@@ -1,12 +1,10 @@
 -- `text::count_in` meets its contract.
-use Prim.Native.Nat.{◌-◌, ◌^◌, ◌<◌, ◌≤◌}
 use mathlib.Core.Path.{◌≡◌, refl, sym, ap, ◌∙◌}
 use mathlib.Core.Bool.{true, false}
 use native.Mathlib.Omega.{arith}
 use borrow.Author.Rules.{rules}
-use borrow.Author.Tests.{not-true, not-false}
-use lib.ListN.{length, drop}
-use Rattle.rules.specs.Base.{Bytes, between, all, is_digit}
+use lib.ListN.{length}
+use Rattle.rules.specs.Base.{between}
 use Rattle.rules.specs.Numbers as numbers
 use Rattle.text.specs.declared.Count.TheVariants.{Of}
 use Rattle.text.proofs.Loops.{all_step, all_end}

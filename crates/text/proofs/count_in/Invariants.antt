@@ -1,16 +1,9 @@
 -- `text::count_in` meets its contract.
 use Prim.Native.Nat.{◌-◌, ◌^◌, ◌<◌, ◌≤◌}
-use mathlib.Core.Path.{◌≡◌, refl, sym, ap, ◌∙◌}
-use mathlib.Core.Bool.{true, false}
-use native.Mathlib.Omega.{arith}
-use borrow.Author.Rules.{rules}
-use borrow.Author.Tests.{not-true, not-false}
+use mathlib.Core.Path.{◌≡◌}
 use lib.ListN.{length, drop}
-use Rattle.rules.specs.Base.{Bytes, between, all, is_digit}
+use Rattle.rules.specs.Base.{all, is_digit}
 use Rattle.rules.specs.Numbers as numbers
-use Rattle.text.specs.declared.Count.TheVariants.{Of}
-use Rattle.text.proofs.Loops.{all_step, all_end}
-use Rattle.text.proofs.Digits.{DigitAt, digit_at, value_step, value_end, below_more, below_ten, count_few, count_long, count_by}
 use Rattle.text.proofs.count_in.Given as goal
 
 abbrev pub invariant-loop-i : goal.invariant-loop-i

@@ -3,7 +3,6 @@ use Prim.Native.Nat.{min}
 use mathlib.Core.Path.{sym, ◌∙◌}
 use Rattle.rules.specs.Numbers.{count_in}
 use Rattle.text.proofs.Counts.{counted_some, counted_none}
-use borrow.Author.Rules.{rules}
 use Rattle.text.proofs.declares.Goals as goal
 
 pub returns-in-Of : goal.returns-in-Of

@@ -1,10 +1,6 @@
 -- `text::find` meets its contract.
-use Prim.Native.Nat.{◌+◌, ◌-◌}
-use mathlib.Core.Path.{◌≡◌, refl, sym, ◌∙◌}
+use mathlib.Core.Path.{sym, ◌∙◌}
 use native.Mathlib.Omega.{arith}
-use borrow.Author.Rules.{rules}
-use lib.ListN.{length, drop}
-use Rattle.text.specs.Text.{index_of}
 use Rattle.text.proofs.Search.{index_past}
 use Rattle.text.proofs.find.Goals as goal
 

@@ -1,11 +1,8 @@
 -- `text::find` meets its contract.
 use Prim.Native.Nat.{◌+◌, ◌-◌}
-use mathlib.Core.Path.{◌≡◌, refl, sym, ◌∙◌}
-use native.Mathlib.Omega.{arith}
-use borrow.Author.Rules.{rules}
+use mathlib.Core.Path.{◌≡◌}
 use lib.ListN.{length, drop}
 use Rattle.text.specs.Text.{index_of}
-use Rattle.text.proofs.Search.{index_past}
 use Rattle.text.proofs.find.Given as goal
 
 abbrev pub invariant-loop-i : goal.invariant-loop-i

@@ -1,9 +1,5 @@
 -- `text::find_near` meets its contract.
-use Prim.Native.Nat.{◌+◌, ◌-◌}
-use mathlib.Core.Path.{◌≡◌, sym, ◌∙◌}
-use borrow.Author.Rules.{rules}
-use lib.ListN.{length, drop}
-use Rattle.text.specs.Text.{index_of}
+use mathlib.Core.Path.{sym, ◌∙◌}
 use Rattle.text.proofs.Search.{index_here, index_later, index_none}
 use Rattle.text.proofs.find_near.Goals as goal
 

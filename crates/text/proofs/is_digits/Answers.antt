@@ -1,6 +1,5 @@
 -- `text::is_digits` meets its contract.
 use mathlib.Core.Path.{sym, ◌∙◌}
-use borrow.Author.Rules.{rules}
 use Rattle.rules.specs.Numbers.{digits}
 use Rattle.text.proofs.is_digits.Goals as goal
 

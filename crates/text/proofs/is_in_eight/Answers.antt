@@ -2,7 +2,6 @@
 use mathlib.Core.Path.{sym}
 use lib.Dec.{eqb}
 use Rattle.text.proofs.Loops.{any_runs}
-use borrow.Author.Rules.{rules}
 use Rattle.text.proofs.is_in_eight.Goals as goal
 
 pub returns : goal.returns

@@ -5,7 +5,6 @@ use native.Mathlib.Omega.{arith}
 use lib.Dec.{eqb}
 use Rattle.rules.specs.Base.{any}
 use Rattle.text.proofs.Loops.{any_more}
-use borrow.Author.Rules.{rules}
 use Rattle.text.proofs.is_in_four.Goals as goal
 
 pub returns : goal.returns

@@ -1,11 +1,6 @@
 -- `text::is_text` meets its contract.
-use Prim.Native.Nat.{◌-◌}
-use mathlib.Core.Path.{◌≡◌, sym, ◌∙◌}
-use borrow.Author.Rules.{rules}
-use borrow.Author.Tests.{not-true, not-false}
-use lib.ListN.{length, drop}
-use Rattle.rules.specs.Base.{all}
-use Rattle.rules.specs.Cutting.{valid, text}
+use mathlib.Core.Path.{sym, ◌∙◌}
+use Rattle.rules.specs.Cutting.{text}
 use Rattle.text.proofs.Loops.{all_step, all_end}
 use Rattle.text.proofs.is_text.Goals as goal
 

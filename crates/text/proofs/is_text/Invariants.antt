@@ -1,12 +1,9 @@
 -- `text::is_text` meets its contract.
 use Prim.Native.Nat.{◌-◌}
-use mathlib.Core.Path.{◌≡◌, sym, ◌∙◌}
-use borrow.Author.Rules.{rules}
-use borrow.Author.Tests.{not-true, not-false}
+use mathlib.Core.Path.{◌≡◌}
 use lib.ListN.{length, drop}
 use Rattle.rules.specs.Base.{all}
 use Rattle.rules.specs.Cutting.{valid, text}
-use Rattle.text.proofs.Loops.{all_step, all_end}
 use Rattle.text.proofs.is_text.Given as goal
 
 abbrev pub invariant-loop-i : goal.invariant-loop-i

@@ -1,6 +1,5 @@
 -- `text::is_time_digits` meets its contract.
 use mathlib.Core.Path.{sym, ◌∙◌}
-use borrow.Author.Rules.{rules}
 use Rattle.text.proofs.is_time_digits.Goals as goal
 
 pub returns-then-is_digits : goal.returns-then-is_digits

@@ -1,6 +1,5 @@
 -- `text::is_upper_or_digit` meets its contract.
 use mathlib.Core.Path.{sym, ◌∙◌}
-use borrow.Author.Rules.{rules}
 use Rattle.text.proofs.is_upper_or_digit.Goals as goal
 
 pub returns-then-is_upper : goal.returns-then-is_upper

@@ -1,6 +1,5 @@
 -- `text::is_valid` meets its contract.
 use borrow.Author.Tests.{le-leb, lt-leb}
-use borrow.Author.Rules.{rules}
 use Rattle.rules.specs.Cutting.{valid}
 use Rattle.text.proofs.is_valid.Goals as goal
 

@@ -4,7 +4,6 @@ use Prim.Native.Nat.{◌-◌}
 use lib.ListN.{length, drop, drop_of_length-le, length-drop}
 use lib.Seq.{take-nil, take_all}
 use native.Mathlib.Omega.{arith}
-use borrow.Author.Rules.{rules}
 use Rattle.text.proofs.part.Goals as goal
 
 pub returns-then-s-from : goal.returns-then-s-from

@@ -1,12 +1,8 @@
 -- `text::same_bytes` meets its contract.
-use Prim.Native.Nat.{◌-◌}
-use mathlib.Core.Path.{◌≡◌, sym, ◌∙◌}
+use mathlib.Core.Path.{sym, ◌∙◌}
 use mathlib.Core.Bool.{true, false}
 use native.Mathlib.Omega.{arith}
-use borrow.Author.Rules.{rules}
 use borrow.Author.Tests.{eq-eqb, ne_eqb}
-use lib.ListN.{length, drop}
-use Rattle.rules.specs.Base.{same}
 use Rattle.text.proofs.Loops.{same_step, same_end, same_lengths}
 use Rattle.text.proofs.same_bytes.Goals as goal
 

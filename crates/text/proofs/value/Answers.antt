@@ -3,7 +3,6 @@ use mathlib.Core.Path.{sym, ◌∙◌}
 use Rattle.rules.specs.Numbers.{count_in}
 use Rattle.text.proofs.Counts.{counted_some, counted_none}
 use Rattle.text.proofs.Digits.{value_counted}
-use borrow.Author.Rules.{rules}
 use Rattle.text.proofs.value.Goals as goal
 
 pub returns-in-Of : goal.returns-in-Of
