@@ -1,7 +1,6 @@
 -- `dates::is_date` meets its contract.
 use mathlib.Core.Path.{ap, sym, ◌∙◌}
 use native.Mathlib.Omega.{arith}
-use borrow.Author.Rules.{rules}
 use lib.Dec.{lit≤}
 use Rattle.rules.specs.Numbers as numbers
 use Rattle.text.proofs.Digits.{value_of, value_below}

@@ -1,6 +1,5 @@
 -- `dates::is_day` meets its contract.
 use mathlib.Core.Path.{sym, ◌∙◌}
-use borrow.Author.Rules.{rules}
 use Rattle.rules.specs.Numbers.{is_day}
 use Rattle.rules.proofs.Calendar.{within}
 use Rattle.dates.proofs.is_day.Goals as goal
