@@ -1,9 +1,7 @@
 -- `caller::call_refusal` meets its contract.
 use mathlib.Core.Path.{sym, ◌∙◌}
-use borrow.Author.Tests.{not-true, not-false}
 use Rattle.rules.specs.Base.{first}
 use Rattle.rules.specs.Refusals.{call_rules, good_call}
-use borrow.Author.Rules.{rules}
 use Rattle.caller.proofs.call_refusal.Goals as goal
 
 pub returns-then-not-is_date : goal.returns-then-not-is_date

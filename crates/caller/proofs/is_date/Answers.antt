@@ -1,6 +1,5 @@
 -- `caller::is_date` meets its contract.
 use borrow.Author.Tests.{le-leb, lt-leb}
-use borrow.Author.Rules.{rules}
 use Rattle.caller.proofs.is_date.Goals as goal
 
 pub returns-then-date-le99991231 : goal.returns-then-date-le99991231
