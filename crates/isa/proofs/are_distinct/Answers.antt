@@ -1,9 +1,5 @@
 -- `isa::are_distinct` meets its contract.
-use Prim.Native.Nat.{◌-◌}
-use mathlib.Core.Path.{◌≡◌, sym, ◌∙◌}
-use borrow.Author.Rules.{rules}
-use lib.ListN.{length, drop}
-use Rattle.rules.specs.Refusals.{distinct}
+use mathlib.Core.Path.{sym, ◌∙◌}
 use Rattle.isa.proofs.Marks.{distinct_not, distinct_step, distinct_end}
 use Rattle.isa.proofs.are_distinct.Goals as goal
 

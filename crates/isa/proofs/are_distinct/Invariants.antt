@@ -1,10 +1,8 @@
 -- `isa::are_distinct` meets its contract.
 use Prim.Native.Nat.{◌-◌}
-use mathlib.Core.Path.{◌≡◌, sym, ◌∙◌}
-use borrow.Author.Rules.{rules}
+use mathlib.Core.Path.{◌≡◌}
 use lib.ListN.{length, drop}
 use Rattle.rules.specs.Refusals.{distinct}
-use Rattle.isa.proofs.Marks.{distinct_not, distinct_step, distinct_end}
 use Rattle.isa.proofs.are_distinct.Given as goal
 
 abbrev pub invariant-loop-k : goal.invariant-loop-k

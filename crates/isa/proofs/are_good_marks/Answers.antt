@@ -1,7 +1,6 @@
 -- `isa::are_good_marks` meets its contract.
 use mathlib.Core.Path.{sym, ◌∙◌}
 use Rattle.rules.specs.Refusals.{good_marks}
-use borrow.Author.Rules.{rules}
 use Rattle.isa.proofs.are_good_marks.Goals as goal
 
 pub returns-then-are_distinct : goal.returns-then-are_distinct

@@ -1,10 +1,5 @@
 -- `isa::are_plain` meets its contract.
-use Prim.Native.Nat.{◌-◌}
-use mathlib.Core.Path.{◌≡◌, sym, ◌∙◌}
-use borrow.Author.Rules.{rules}
-use borrow.Author.Tests.{not-true, not-false}
-use lib.ListN.{length, drop}
-use Rattle.rules.specs.Base.{all}
+use mathlib.Core.Path.{sym, ◌∙◌}
 use Rattle.rules.specs.Refusals.{plain}
 use Rattle.text.proofs.Loops.{all_step, all_end}
 use Rattle.isa.proofs.are_plain.Goals as goal

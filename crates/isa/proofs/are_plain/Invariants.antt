@@ -1,12 +1,9 @@
 -- `isa::are_plain` meets its contract.
 use Prim.Native.Nat.{◌-◌}
-use mathlib.Core.Path.{◌≡◌, sym, ◌∙◌}
-use borrow.Author.Rules.{rules}
-use borrow.Author.Tests.{not-true, not-false}
+use mathlib.Core.Path.{◌≡◌}
 use lib.ListN.{length, drop}
 use Rattle.rules.specs.Base.{all}
 use Rattle.rules.specs.Refusals.{plain}
-use Rattle.text.proofs.Loops.{all_step, all_end}
 use Rattle.isa.proofs.are_plain.Given as goal
 
 abbrev pub invariant-loop-k : goal.invariant-loop-k

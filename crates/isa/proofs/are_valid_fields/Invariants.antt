@@ -1,14 +1,9 @@
 -- `isa::are_valid_fields` meets its contract.
 use Prim.Native.Nat.{◌-◌}
-use mathlib.Core.Path.{◌≡◌, refl, sym, ◌∙◌}
-use mathlib.Core.List.{[]}
-use native.Mathlib.Omega.{arith}
-use borrow.Author.Tests.{not-true, not-false}
+use mathlib.Core.Path.{◌≡◌}
 use lib.Seq.{slice}
 use Rattle.rules.specs.Base.{all}
-use Rattle.rules.specs.Cutting.{valid, isa, separators}
-use Rattle.isa.proofs.Places.{isa_length, part_step, part_end}
-use borrow.Author.Rules.{rules}
+use Rattle.rules.specs.Cutting.{valid, isa}
 use Rattle.isa.proofs.are_valid_fields.Given as goal
 
 abbrev pub invariant-loop-n : goal.invariant-loop-n

@@ -1,7 +1,6 @@
 -- `isa::are_valid_text_fields` meets its contract.
 use mathlib.Core.Path.{sym, ◌∙◌}
 use Rattle.isa.proofs.Places.{texts_all, texts_others}
-use borrow.Author.Rules.{rules}
 use Rattle.isa.proofs.are_valid_text_fields.Goals as goal
 
 pub returns-in-Nothing : goal.returns-in-Nothing

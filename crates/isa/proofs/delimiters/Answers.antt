@@ -1,6 +1,5 @@
 -- `isa::delimiters` meets its contract.
 use Rattle.rules.specs.Cutting.{delimiters}
-use borrow.Author.Rules.{rules}
 use Rattle.isa.proofs.delimiters.Goals as goal
 
 pub returns : goal.returns

@@ -1,9 +1,7 @@
 -- `isa::field_at` meets its contract.
 use Prim.Native.Nat.{◌-◌}
-use mathlib.Core.Path.{sym}
 use native.Mathlib.Nat.{sub-zero}
 use native.Mathlib.Omega.{arith}
-use borrow.Author.Rules.{rules}
 use Rattle.isa.proofs.Places.{separator_low, isa_first, isa_next}
 use Rattle.isa.proofs.field_at.Goals as goal
 

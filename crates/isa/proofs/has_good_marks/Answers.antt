@@ -1,6 +1,5 @@
 -- `isa::has_good_marks` meets its contract.
 use Rattle.rules.specs.Cutting.{marks}
-use borrow.Author.Rules.{rules}
 use Rattle.isa.proofs.has_good_marks.Goals as goal
 
 pub returns-in-Nothing : goal.returns-in-Nothing

@@ -1,15 +1,12 @@
 -- `isa::has_isa` meets its contract.
 use Prim.Native.Nat.{ℕ, ◌-◌}
-use mathlib.Core.Path.{◌≡◌, refl, sym, ◌∙◌}
-use mathlib.Core.Bool.{Bool, true, false}
-use borrow.Author.Tests.{not-true, not-false, eq-eqb, ne_eqb}
+use mathlib.Core.Path.{◌≡◌}
+use mathlib.Core.Bool.{Bool}
 use lib.Dec.{eqb}
 use lib.ListN.{drop, get_or}
 use Rattle.rules.specs.Base.{Bytes, all}
 use Rattle.rules.specs.Cutting.{separators}
 use Rattle.rules.specs.Refusals.{has_isa}
-use Rattle.isa.proofs.Places.{sixteen, test_step, test_end}
-use borrow.Author.Rules.{rules}
 use Rattle.isa.proofs.has_isa.Given as goal
 
 abbrev pub separated : Bytes → ℕ → Bool

@@ -1,8 +1,6 @@
 -- `isa::is_good_isa` meets its contract.
 use mathlib.Core.Path.{sym, ◌∙◌}
-use borrow.Author.Tests.{not-true, not-false}
 use Rattle.rules.specs.Refusals.{good_isa}
-use borrow.Author.Rules.{rules}
 use Rattle.isa.proofs.is_good_isa.Goals as goal
 
 pub returns-then-not-are_valid_text_fields : goal.returns-then-not-are_valid_text_fields

@@ -1,5 +1,4 @@
 -- `isa::is_terminated` meets its contract.
-use borrow.Author.Rules.{rules}
 use Rattle.isa.proofs.is_terminated.Goals as goal
 
 pub returns : goal.returns

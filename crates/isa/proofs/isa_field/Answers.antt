@@ -4,7 +4,6 @@ use mathlib.Core.Path.{refl, sym}
 use Rattle.rules.specs.Cutting.{isa, separators}
 use lib.ListN.{get_or-eq_default}
 use Rattle.isa.proofs.Places.{isa_length}
-use borrow.Author.Rules.{rules}
 use Rattle.isa.proofs.isa_field.Goals as goal
 
 pub returns-then-n-ge-FIELDS : goal.returns-then-n-ge-FIELDS

@@ -3,7 +3,6 @@ use mathlib.Core.Path.{sym, ◌∙◌}
 use lib.Dec.{lit≤}
 use Rattle.rules.specs.Cutting.{knows_repetition}
 use Rattle.text.proofs.Digits.{value_of}
-use borrow.Author.Rules.{rules}
 use Rattle.isa.proofs.knows_repetition.Goals as goal
 
 pub returns-then-is_digits : goal.returns-then-is_digits

@@ -5,7 +5,6 @@ use mathlib.Core.Path.{sym, ◌∙◌}
 use lib.ListN.{get_or-eq_default}
 use Rattle.isa.proofs.Places.{last_at}
 use native.Mathlib.Omega.{arith}
-use borrow.Author.Rules.{rules}
 use Rattle.isa.proofs.last_byte.Goals as goal
 
 pub returns-then-i-eq0 : goal.returns-then-i-eq0

@@ -2,7 +2,7 @@
 use Prim.Native.Nat.{ℕ}
 use mathlib.Core.Path.{◌≡◌, refl, sym, ap, ◌∙◌}
 use mathlib.Core.Bool.{Bool, false}
-use borrow.Author.Tests.{le-leb, lt-leb, not-true, not-false}
+use borrow.Author.Tests.{le-leb, lt-leb}
 use lib.Dec.{eqb}
 use lib.ListN.{drop}
 use Rattle.rules.specs.Base.{Bytes, first}
@@ -11,7 +11,6 @@ use Rattle.rules.specs.Refusals.{good_marks, head_rules}
 use Rattle.rules.specs.declared.Delimiters.{Delimiters}
 use Rattle.isa.specs.Delimited.{isa_of}
 use Rattle.isa.specs.declared.Isa.TheVariants.{Sound, Refused}
-use borrow.Author.Rules.{rules}
 use Rattle.isa.proofs.read_isa.Goals as goal
 
 refused : (i : Bytes) (n : ℕ) → eqb n 0 ≡ false → first (head_rules i) ≡ n → Refused n ≡ isa_of i

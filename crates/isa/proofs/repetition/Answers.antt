@@ -1,10 +1,8 @@
 -- `isa::repetition` meets its contract.
 use mathlib.Core.Path.{sym, ◌∙◌}
-use mathlib.Core.Logic.{⊎_elim}
 use borrow.Author.Tests.{eq-eqb, ne_eqb}
 use Rattle.rules.specs.Cutting.{repetition_in}
 use Rattle.text.proofs.Loops.{and_false}
-use borrow.Author.Rules.{rules}
 use Rattle.isa.proofs.repetition.Goals as goal
 use Rattle.isa.proofs.repetition.Goals.{else-isa11-ne85-via-else-isa11-ne85, else-isa11-ne85-via-then-isa11-ne85+else-knows_repetition}
 
@@ -22,6 +20,6 @@ pub returns : goal.returns
 unfolding repetition_in
 returns c =
     elim c.else-isa11-ne85.branch [
-      else-isa11-ne85-via-then-isa11-ne85+else-knows_repetition w ↦ rw (← w.isa_field.ensures, sym w.knows_repetition.ensures ∙ w.if-knows_repetition.false)
-    | else-isa11-ne85-via-else-isa11-ne85 w ↦ rw (← c.byte_at-isa11.ensures, eq-eqb _ 85 w.if-isa11-ne85.false, and_false _)
+      | else-isa11-ne85-via-then-isa11-ne85+else-knows_repetition w ↦ rw (← w.isa_field.ensures, sym w.knows_repetition.ensures ∙ w.if-knows_repetition.false)
+      | else-isa11-ne85-via-else-isa11-ne85 w ↦ rw (← c.byte_at-isa11.ensures, eq-eqb _ 85 w.if-isa11-ne85.false, and_false _)
     ]
