@@ -1,12 +1,7 @@
 -- `segments::field` meets its contract.
-use borrow.Author.Rules.{rules}
-use mathlib.Core.Path.{◌≡◌, sym, ap, ◌∙◌}
 use Prim.Native.Nat.{◌-◌, ◌≤◌}
 use lib.ListN.{length}
-use Rattle.rules.specs.Cutting as cutting
-use Rattle.text.proofs.Search.{find_le}
-use Rattle.segments.proofs.Fields.{FieldAt, field_first, field_at, field_next, field_past}
-use native.Mathlib.Omega.{arith}
+use Rattle.segments.proofs.Fields.{FieldAt}
 use Rattle.segments.proofs.field.Given as goal
 
 abbrev pub invariant-loop-i : goal.invariant-loop-i

@@ -1,10 +1,4 @@
 -- `segments::field_count` meets its contract.
-use borrow.Author.Rules.{rules}
-use mathlib.Core.Path.{◌≡◌}
-use mathlib.Core.Logic.{⊎_elim}
-use Prim.Native.Nat.{◌+◌, ◌-◌, ◌≤◌}
-use lib.ListN.{length, drop}
-use Rattle.rules.specs.Cutting.{split}
 use Rattle.segments.proofs.Fields.{count_cut, count_kept, count_end}
 use native.Mathlib.Omega.{arith}
 use Rattle.segments.proofs.field_count.Goals as goal

@@ -1,5 +1,4 @@
 -- `segments::id` meets its contract.
-use borrow.Author.Rules.{rules}
 use Rattle.segments.proofs.id.Goals as goal
 
 pub returns : goal.returns

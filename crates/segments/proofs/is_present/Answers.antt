@@ -3,7 +3,6 @@ use mathlib.Core.Path.{sym, ap, ◌∙◌}
 use mathlib.Core.Bool.{not}
 use Rattle.rules.specs.Base.{Bytes, null}
 use Rattle.segments.proofs.Fields.{present_length}
-use borrow.Author.Rules.{rules}
 use Rattle.segments.proofs.is_present.Goals as goal
 
 pub returns : goal.returns
