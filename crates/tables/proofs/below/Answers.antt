@@ -1,6 +1,5 @@
 -- `tables::below` meets its contract.
 use borrow.Author.Tests.{lt-ltb, le-ltb}
-use borrow.Author.Rules.{rules}
 use Rattle.tables.proofs.below.Goals as goal
 
 pub returns-then-k-guide : goal.returns-then-k-guide

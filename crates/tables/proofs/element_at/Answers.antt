@@ -1,5 +1,4 @@
 -- `tables::element_at` meets its contract.
-use borrow.Author.Rules.{rules}
 use Rattle.tables.proofs.element_at.Goals as goal
 
 pub returns : goal.returns

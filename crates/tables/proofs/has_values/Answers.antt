@@ -5,7 +5,6 @@ use Rattle.rules.specs.Base.{null}
 use Rattle.tables.specs.Reading.{Guide}
 use Rattle.tables.specs.Rows.{codes_in}
 use Rattle.tables.proofs.Laws.{codes_any, below_rest}
-use borrow.Author.Rules.{rules}
 use Rattle.tables.proofs.has_values.Goals as goal
 
 pub returns : goal.returns

@@ -1,6 +1,5 @@
 -- `tables::id_at` meets its contract.
 use Rattle.tables.specs.Reading.{id_at}
-use borrow.Author.Rules.{rules}
 use Rattle.tables.proofs.id_at.Goals as goal
 
 pub returns : goal.returns

@@ -1,8 +1,6 @@
 -- `tables::is_entry` meets its contract.
-use mathlib.Core.Path.{refl}
 use mathlib.Core.List.{[]}
 use lib.ListN.{get_or-eq_default}
-use borrow.Author.Rules.{rules}
 use Rattle.tables.proofs.is_entry.Goals as goal
 
 pub returns : goal.returns

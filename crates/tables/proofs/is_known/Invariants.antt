@@ -1,12 +1,9 @@
 -- `tables::is_known` meets its contract.
 use Prim.Native.Nat.{◌-◌}
-use mathlib.Core.Path.{◌≡◌, sym, ◌∙◌}
-use mathlib.Core.Bool.{true, false}
+use mathlib.Core.Path.{◌≡◌}
 use lib.ListN.{length, drop}
 use Rattle.rules.specs.Base.{member}
 use Rattle.tables.specs.Rows.{ids_in}
-use Rattle.tables.proofs.Numbers.{known_step, known_end}
-use borrow.Author.Rules.{rules}
 use Rattle.tables.proofs.is_known.Given as goal
 
 abbrev pub invariant-loop-k : goal.invariant-loop-k

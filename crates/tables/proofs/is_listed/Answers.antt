@@ -4,7 +4,6 @@ use Rattle.rules.specs.Base.{member}
 use Rattle.tables.specs.Reading.{Guide}
 use Rattle.tables.specs.Rows.{codes_in}
 use Rattle.tables.proofs.Laws.{below_rest}
-use borrow.Author.Rules.{rules}
 use Rattle.tables.proofs.is_listed.Goals as goal
 
 pub returns : goal.returns

@@ -1,11 +1,9 @@
 -- `tables::is_listed_from` meets its contract.
-use Prim.Native.Nat.{◌-◌, ◌<◌}
-use mathlib.Core.Path.{◌≡◌, sym, ◌∙◌}
+use Prim.Native.Nat.{◌<◌}
+use mathlib.Core.Path.{sym, ◌∙◌}
 use mathlib.Core.Bool.{true, false}
 use lib.Dec.{lit<}
 use lib.ListN.{length}
-use Rattle.rules.specs.Base.{member}
-use Rattle.tables.specs.Reading.{codes_at}
 use Rattle.tables.proofs.Laws.{row_within, listed_step, listed_end}
 use borrow.Author.Rules.{rules}
 use Rattle.tables.proofs.is_listed_from.Goals as goal

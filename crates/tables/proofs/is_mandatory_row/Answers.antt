@@ -1,6 +1,5 @@
 -- `tables::is_mandatory_row` meets its contract.
 use borrow.Author.Tests.{ne_eqb, eq-eqb}
-use borrow.Author.Rules.{rules}
 use Rattle.tables.proofs.is_mandatory_row.Goals as goal
 
 pub returns-then-row-ne-SEGMENT : goal.returns-then-row-ne-SEGMENT

@@ -8,7 +8,6 @@ use Rattle.tables.specs.Rows.{filled}
 use Rattle.tables.proofs.Laws.{three}
 use Rattle.tables.proofs.Numbers.{same_swap}
 use native.Mathlib.Omega.{arith}
-use borrow.Author.Rules.{rules}
 use Rattle.tables.proofs.is_named.Goals as goal
 
 pub returns : goal.returns

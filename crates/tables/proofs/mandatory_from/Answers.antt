@@ -1,11 +1,6 @@
 -- `tables::mandatory_from` meets its contract.
-use borrow.Author.Rules.{rules}
-use Prim.Native.Nat.{◌-◌}
-use mathlib.Core.Path.{◌≡◌, sym, ◌∙◌}
+use mathlib.Core.Path.{sym, ◌∙◌}
 use mathlib.Core.List.{[]}
-use lib.ListN.{length}
-use Rattle.text.specs.Text.{next_where}
-use Rattle.tables.specs.Reading.{is_mandatory_row}
 use Rattle.text.proofs.Where.{next_here, next_later, next_none}
 use Rattle.tables.proofs.mandatory_from.Goals as goal
 

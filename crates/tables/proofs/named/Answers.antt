@@ -1,10 +1,6 @@
 -- `tables::named` meets its contract.
-use Prim.Native.Nat.{◌+◌, ◌-◌}
-use mathlib.Core.Path.{◌≡◌, sym, ◌∙◌}
-use lib.ListN.{length, drop}
-use Rattle.text.specs.Text.{index_of}
+use mathlib.Core.Path.{sym, ◌∙◌}
 use Rattle.text.proofs.Search.{index_here, index_later, index_none}
-use borrow.Author.Rules.{rules}
 use Rattle.tables.proofs.named.Goals as goal
 
 pub returns-then-numbers-i-eq0 : goal.returns-then-numbers-i-eq0

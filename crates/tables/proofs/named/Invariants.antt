@@ -1,10 +1,8 @@
 -- `tables::named` meets its contract.
 use Prim.Native.Nat.{◌+◌, ◌-◌}
-use mathlib.Core.Path.{◌≡◌, sym, ◌∙◌}
+use mathlib.Core.Path.{◌≡◌}
 use lib.ListN.{length, drop}
 use Rattle.text.specs.Text.{index_of}
-use Rattle.text.proofs.Search.{index_here, index_later, index_none}
-use borrow.Author.Rules.{rules}
 use Rattle.tables.proofs.named.Given as goal
 
 abbrev pub invariant-loop-i : goal.invariant-loop-i

@@ -1,16 +1,14 @@
 -- `tables::next_due` meets its contract.
-use Prim.Native.Nat.{ℕ, ◌-◌}
-use mathlib.Core.Path.{◌≡◌, refl, sym, ◌∙◌}
-use mathlib.Core.Bool.{Bool, true, false, ◌||◌}
-use mathlib.Core.List.{List, []}
-use lib.ListN.{length, get_or, get_or-eq_default}
+use Prim.Native.Nat.{ℕ}
+use mathlib.Core.Path.{◌≡◌, sym, ◌∙◌}
+use mathlib.Core.Bool.{Bool, true, false}
+use mathlib.Core.List.{[]}
+use lib.ListN.{get_or, get_or-eq_default}
 use Rattle.rules.specs.Base.{Bytes, if◌then◌else◌}
 use Rattle.text.specs.Text.{next_where}
-use Rattle.tables.specs.Reading.{Guide, is_entry_row, is_mandatory_row, next_due}
-use Rattle.tables.specs.declared.Due.{Due}
+use Rattle.tables.specs.Reading.{Guide, is_entry_row, next_due}
 use Rattle.tables.specs.declared.Due.TheVariants.{Row, Nothing}
 use Rattle.text.proofs.Where.{next_here, next_later, next_none}
-use borrow.Author.Rules.{rules}
 use Rattle.tables.proofs.next_due.Invariants.{stops}
 use Rattle.tables.proofs.next_due.Goals as goal
 

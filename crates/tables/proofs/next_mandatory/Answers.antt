@@ -4,7 +4,6 @@ use lib.Seq.{take_all, length-take-le}
 use Rattle.text.specs.Text.{next_where}
 use Rattle.tables.specs.Reading.{Guide, is_mandatory_row, next_mandatory}
 use native.Mathlib.Omega.{arith}
-use borrow.Author.Rules.{rules}
 use Rattle.tables.proofs.next_mandatory.Goals as goal
 
 pub slice_bounds-mandatory_from-end : goal.slice_bounds-mandatory_from-end

@@ -1,5 +1,4 @@
 -- `tables::places_at` meets its contract.
-use borrow.Author.Rules.{rules}
 use Rattle.tables.proofs.places_at.Goals as goal
 
 pub returns : goal.returns

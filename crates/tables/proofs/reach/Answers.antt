@@ -1,12 +1,8 @@
 -- `tables::reach` meets its contract.
-use Prim.Native.Nat.{◌-◌}
-use mathlib.Core.Path.{◌≡◌, sym, ◌∙◌}
+use mathlib.Core.Path.{sym, ◌∙◌}
 use mathlib.Core.List.{[]}
-use lib.ListN.{length}
-use Rattle.text.specs.Text.{next_where}
-use Rattle.tables.specs.Reading.{is_entry_row, entry_row}
+use Rattle.tables.specs.Reading.{entry_row}
 use Rattle.text.proofs.Where.{next_here, next_later, next_none}
-use borrow.Author.Rules.{rules}
 use Rattle.tables.proofs.reach.Goals as goal
 
 pub returns-then-is_entry_row : goal.returns-then-is_entry_row

@@ -1,7 +1,6 @@
 -- `tables::relation_at` meets its contract.
 use mathlib.Core.Path.{ap, ◌∙◌}
 use Rattle.tables.specs.Rows.{relation_of}
-use borrow.Author.Rules.{rules}
 use Rattle.tables.proofs.relation_at.Goals as goal
 
 pub returns : goal.returns

@@ -1,14 +1,9 @@
 -- `tables::spells` meets its contract.
-use borrow.Author.Rules.{rules}
-use Prim.Native.Nat.{◌-◌}
-use mathlib.Core.Path.{◌≡◌, sym, ◌∙◌, ap}
+use mathlib.Core.Path.{sym, ◌∙◌, ap}
 use mathlib.Core.Bool.{true, false}
 use borrow.Author.Tests.{ne_eqb, eq-eqb}
-use lib.ListN.{length, drop}
 use lib.Dec.{eqb}
 use Prim.Native.Nat.{ℕ}
-use Rattle.rules.specs.Base.{same}
-use Rattle.tables.specs.Rows.{filled}
 use Rattle.tables.proofs.Numbers.{spell_short, spell_step, spell_end}
 use native.Mathlib.Omega.{arith}
 use Rattle.tables.proofs.spells.Goals as goal
