@@ -1,5 +1,4 @@
 -- `writing::add_byte` meets its contract: the rest is lent to a block.
-use borrow.Author.Rules.{rules}
 use native.Mathlib.Omega.{arith}
 use Rattle.writing.proofs.Laws.{lend}
 use Rattle.writing.proofs.add_byte.Goals as goal

@@ -1,13 +1,7 @@
 -- `writing::add_codes` meets its contract: the codes from i on are still owed.
-use borrow.Author.Rules.{rules}
-use mathlib.Core.Path.{◌≡◌, refl, ◌∙◌}
-use mathlib.Core.List.{map}
-use Prim.Native.Nat.{◌≤◌, ◌<◌, ◌-◌}
+use mathlib.Core.Path.{refl, ◌∙◌}
 use native.Mathlib.Omega.{arith}
-use lib.ListN.{length, drop}
-use Rattle.rules.specs.Numbers.{decimal}
-use Rattle.rules.specs.Response.{fields_out}
-use Rattle.writing.proofs.Laws.{Owes, all, pay, done, kept}
+use Rattle.writing.proofs.Laws.{all, pay, done, kept}
 use Rattle.writing.proofs.Segments.{codes_turn, codes_end}
 use Rattle.writing.proofs.add_codes.Goals as goal
 

@@ -1,14 +1,11 @@
 -- `writing::add_codes` meets its contract: the codes from i on are still owed.
-use borrow.Author.Rules.{rules}
-use mathlib.Core.Path.{◌≡◌, refl, ◌∙◌}
+use mathlib.Core.Path.{◌≡◌}
 use mathlib.Core.List.{map}
 use Prim.Native.Nat.{◌≤◌, ◌<◌, ◌-◌}
-use native.Mathlib.Omega.{arith}
 use lib.ListN.{length, drop}
 use Rattle.rules.specs.Numbers.{decimal}
 use Rattle.rules.specs.Response.{fields_out}
-use Rattle.writing.proofs.Laws.{Owes, all, pay, done, kept}
-use Rattle.writing.proofs.Segments.{codes_turn, codes_end}
+use Rattle.writing.proofs.Laws.{Owes}
 use Rattle.writing.proofs.add_codes.Given as goal
 
 abbrev pub invariant-loop-i : goal.invariant-loop-i

@@ -1,5 +1,4 @@
 -- `writing::add_optional` meets its contract: a number as an element, or its separator alone.
-use borrow.Author.Rules.{rules}
 use mathlib.Core.List.{[]}
 use Rattle.writing.proofs.Laws.{said}
 use Rattle.writing.proofs.Numbers.{optional_none, optional_some}

@@ -1,5 +1,4 @@
 -- `writing::add_pair` meets its contract: a segment's row of pieces.
-use borrow.Author.Rules.{rules}
 use Rattle.writing.proofs.Segments.{begin, more, end}
 use Rattle.writing.proofs.add_pair.Goals as goal
 

@@ -1,5 +1,4 @@
 -- `writing::add_single` meets its contract: a separator and its content.
-use borrow.Author.Rules.{rules}
 use Rattle.writing.proofs.Segments.{field}
 use Rattle.writing.proofs.add_single.Goals as goal
 

@@ -3,7 +3,6 @@ use Rattle.rules.specs.Response.{fields_out}
 use Rattle.writing.proofs.Laws.{kept, none}
 use Rattle.writing.proofs.Segments.{trailing_none, trailing_some}
 use native.Mathlib.Omega.{arith}
-use borrow.Author.Rules.{rules}
 use Rattle.writing.proofs.add_trailing.Goals as goal
 
 pub returns-then-bytes-eq0 : goal.returns-then-bytes-eq0

@@ -1,8 +1,6 @@
 -- `writing::digit_count` meets its contract: the digits counted and those of what is left make the number.
-use Prim.Native.Nat.{◌≤◌, ◌+◌, ◌*◌}
 use native.Mathlib.Omega.{arith}
-use borrow.Author.Rules.{rules}
-use Rattle.writing.proofs.Numbers.{Counts, count_start, count_turn, count_done}
+use Rattle.writing.proofs.Numbers.{count_start, count_turn, count_done}
 use Rattle.writing.proofs.digit_count.Goals as goal
 
 pub loop-rest-init : goal.loop-rest-init

@@ -1,8 +1,6 @@
 -- `writing::digit_count` meets its contract: the digits counted and those of what is left make the number.
 use Prim.Native.Nat.{◌≤◌, ◌+◌, ◌*◌}
-use native.Mathlib.Omega.{arith}
-use borrow.Author.Rules.{rules}
-use Rattle.writing.proofs.Numbers.{Counts, count_start, count_turn, count_done}
+use Rattle.writing.proofs.Numbers.{Counts}
 use Rattle.writing.proofs.digit_count.Given as goal
 
 abbrev pub invariant-loop-rest : goal.invariant-loop-rest

@@ -1,6 +1,5 @@
 -- `writing::put_number` meets its contract: its digits are as many as are counted.
 use mathlib.Core.Path.{sym}
-use borrow.Author.Rules.{rules}
 use Rattle.writing.proofs.Laws.{same}
 use Rattle.writing.proofs.put_number.Goals as goal
 

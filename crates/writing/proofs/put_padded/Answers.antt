@@ -1,12 +1,8 @@
 -- `writing::put_padded` meets its contract: the digits that are left, over what stands, are the whole over what was lent.
-use mathlib.Core.Path.{◌≡◌, refl, sym, ◌∙◌}
-use Prim.Native.Nat.{◌≤◌}
+use mathlib.Core.Path.{refl, sym, ◌∙◌}
 use native.Mathlib.Omega.{arith}
-use borrow.Author.Rules.{rules}
-use lib.ListN.{length, length-set}
-use Rattle.rules.specs.Numbers.{padded}
+use lib.ListN.{length-set}
 use Rattle.rules.proofs.Lengths.{padded_length}
-use Rattle.writing.specs.Over.{over}
 use Rattle.writing.proofs.Numbers.{padded_turn, padded_done}
 use Rattle.writing.proofs.put_padded.Goals as goal
 

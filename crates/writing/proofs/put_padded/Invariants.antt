@@ -1,13 +1,8 @@
 -- `writing::put_padded` meets its contract: the digits that are left, over what stands, are the whole over what was lent.
-use mathlib.Core.Path.{◌≡◌, refl, sym, ◌∙◌}
-use Prim.Native.Nat.{◌≤◌}
-use native.Mathlib.Omega.{arith}
-use borrow.Author.Rules.{rules}
-use lib.ListN.{length, length-set}
+use mathlib.Core.Path.{◌≡◌}
+use lib.ListN.{length}
 use Rattle.rules.specs.Numbers.{padded}
-use Rattle.rules.proofs.Lengths.{padded_length}
 use Rattle.writing.specs.Over.{over}
-use Rattle.writing.proofs.Numbers.{padded_turn, padded_done}
 use Rattle.writing.proofs.put_padded.Given as goal
 
 abbrev pub invariant-loop-i : goal.invariant-loop-i

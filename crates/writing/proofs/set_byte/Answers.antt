@@ -1,6 +1,5 @@
 -- `writing::set_byte` meets its contract.
 use mathlib.Core.Path.{sym}
-use borrow.Author.Rules.{rules}
 use Rattle.writing.proofs.Over.{set_past}
 use Rattle.writing.proofs.set_byte.Goals as goal
 
