@@ -1,7 +1,6 @@
 -- `envelope::closes` meets its contract.
 use mathlib.Core.Path.{ap, ◌∙◌}
 use Rattle.rules.specs.Base.{Bytes, same}
-use borrow.Author.Rules.{rules}
 use Rattle.envelope.proofs.closes.Goals as goal
 
 pub returns : goal.returns

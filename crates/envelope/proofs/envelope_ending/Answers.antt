@@ -1,10 +1,8 @@
 -- `envelope::envelope_ending` meets its contract.
 use mathlib.Core.Path.{refl, sym, ◌∙◌}
-use borrow.Author.Tests.{not-true, not-false}
 use Rattle.rules.specs.Base.{ascii, same}
 use Rattle.text.proofs.Search.{find_end}
 use Rattle.envelope.proofs.Places.{named_within, ending_unnamed, ending_followed, ending_whole}
-use borrow.Author.Rules.{rules}
 use native.Mathlib.Omega.{arith}
 use Rattle.envelope.proofs.envelope_ending.Goals as goal
 

@@ -1,12 +1,7 @@
 -- `envelope::envelope_from` meets its contract.
-use mathlib.Core.Path.{◌≡◌, refl, sym, ◌∙◌}
-use Prim.Native.Nat.{◌+◌, ◌-◌}
-use lib.ListN.{length, drop}
-use Rattle.rules.specs.Cutting.{pieces}
+use mathlib.Core.Path.{refl, sym, ◌∙◌}
 use Rattle.text.proofs.Search.{find_end}
-use Rattle.envelope.specs.Places.{until_envelope}
 use Rattle.envelope.proofs.Places.{until_here, until_later, until_none}
-use borrow.Author.Rules.{rules}
 use native.Mathlib.Omega.{arith}
 use Rattle.envelope.proofs.envelope_from.Goals as goal
 

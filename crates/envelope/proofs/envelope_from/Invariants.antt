@@ -1,13 +1,9 @@
 -- `envelope::envelope_from` meets its contract.
-use mathlib.Core.Path.{◌≡◌, refl, sym, ◌∙◌}
+use mathlib.Core.Path.{◌≡◌}
 use Prim.Native.Nat.{◌+◌, ◌-◌}
 use lib.ListN.{length, drop}
 use Rattle.rules.specs.Cutting.{pieces}
-use Rattle.text.proofs.Search.{find_end}
 use Rattle.envelope.specs.Places.{until_envelope}
-use Rattle.envelope.proofs.Places.{until_here, until_later, until_none}
-use borrow.Author.Rules.{rules}
-use native.Mathlib.Omega.{arith}
 use Rattle.envelope.proofs.envelope_from.Given as goal
 
 abbrev pub invariant-loop-at : goal.invariant-loop-at

@@ -2,7 +2,6 @@
 use mathlib.Core.Path.{sym, ◌∙◌}
 use Rattle.text.proofs.Search.{find_le}
 use Rattle.envelope.proofs.Places.{envelope_without, envelope_over, envelope_to}
-use borrow.Author.Rules.{rules}
 use native.Mathlib.Omega.{arith}
 use Rattle.envelope.proofs.envelope_of.Goals as goal
 

@@ -1,6 +1,5 @@
 -- `envelope::group_after` meets its contract.
 use mathlib.Core.Path.{◌∙◌}
-use borrow.Author.Rules.{rules}
 use Rattle.envelope.proofs.group_after.Goals as goal
 
 pub returns-then-group : goal.returns-then-group

@@ -1,6 +1,5 @@
 -- `envelope::group_ending` meets its contract.
 use Rattle.envelope.specs.Places.{group_ending}
-use borrow.Author.Rules.{rules}
 use Rattle.envelope.proofs.group_ending.Goals as goal
 
 pub returns : goal.returns

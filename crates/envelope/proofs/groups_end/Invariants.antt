@@ -1,11 +1,7 @@
 -- `envelope::groups_end` meets its contract.
-use mathlib.Core.Path.{◌≡◌, sym, ◌∙◌}
+use mathlib.Core.Path.{◌≡◌}
 use Prim.Native.Nat.{◌-◌, ◌≤◌}
-use native.Mathlib.Nat.{sub-zero}
-use native.Mathlib.Omega.{arith}
-use borrow.Author.Rules.{rules}
 use Rattle.envelope.specs.Places.{groups_end}
-use Rattle.envelope.proofs.Places.{count_none, count_full, count_one}
 use Rattle.envelope.proofs.groups_end.Given as goal
 
 abbrev pub invariant-loop-step : goal.invariant-loop-step

@@ -2,7 +2,6 @@
 use mathlib.Core.Path.{ap, ◌∙◌}
 use Rattle.rules.specs.Base.{Bytes}
 use Rattle.rules.specs.Cutting.{is_named, split}
-use borrow.Author.Rules.{rules}
 use Rattle.envelope.proofs.is_named_at.Goals as goal
 
 pub returns : goal.returns

@@ -1,6 +1,5 @@
 -- `envelope::is_of_envelope` meets its contract.
 use mathlib.Core.Path.{sym, ◌∙◌}
-use borrow.Author.Rules.{rules}
 use Rattle.rules.specs.Base.{any}
 use Rattle.text.proofs.Loops.{or_false}
 use Rattle.envelope.proofs.is_of_envelope.Goals as goal

@@ -1,10 +1,8 @@
 -- `envelope::next_group` meets its contract.
 use mathlib.Core.Path.{refl, sym, ◌∙◌}
-use borrow.Author.Tests.{not-true, not-false}
 use Rattle.rules.specs.Base.{ascii, same}
 use Rattle.text.proofs.Search.{find_end}
 use Rattle.envelope.proofs.Places.{named_within, next_found_by, next_none_by}
-use borrow.Author.Rules.{rules}
 use native.Mathlib.Omega.{arith}
 use Rattle.envelope.proofs.next_group.Goals as goal
 

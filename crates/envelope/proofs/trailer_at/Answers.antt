@@ -4,7 +4,6 @@ use Rattle.rules.specs.Base.{ascii, same}
 use Rattle.text.proofs.Search.{find_end}
 use Rattle.envelope.proofs.Places.{named_within, trailer_there, trailer_missing}
 use native.Mathlib.Omega.{arith}
-use borrow.Author.Rules.{rules}
 use Rattle.envelope.proofs.trailer_at.Goals as goal
 
 pub overflow_add-result : goal.overflow_add-result

@@ -1,8 +1,6 @@
 -- `envelope::trailer_fault` meets its contract.
 use mathlib.Core.Path.{sym, ◌∙◌}
-use borrow.Author.Tests.{not-true, not-false}
 use Rattle.envelope.specs.Faults.{trailer_fault}
-use borrow.Author.Rules.{rules}
 use Rattle.envelope.proofs.trailer_fault.Goals as goal
 
 pub returns-then-not-has_two : goal.returns-then-not-has_two
