@@ -2,7 +2,6 @@
 use mathlib.Core.Path.{sym, ap, ◌∙◌}
 use Rattle.rules.specs.Base.{Bytes, ascii, same, first}
 use Rattle.rules.specs.Refusals.{answer_rules}
-use borrow.Author.Rules.{rules}
 use Rattle.group_header.proofs.answer_refusal.Goals as goal
 
 pub returns-then-same_bytes : goal.returns-then-same_bytes

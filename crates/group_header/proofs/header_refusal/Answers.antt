@@ -1,6 +1,6 @@
 -- `group_header::header_refusal` meets its contract.
 use mathlib.Core.Path.{sym, ap, ◌∙◌}
-use borrow.Author.Tests.{eq-eqb, ne_eqb, not-true, not-false}
+use borrow.Author.Tests.{eq-eqb, ne_eqb}
 use lib.ListN.{length}
 use Rattle.rules.specs.Base.{first, all, is_upper_or_digit}
 use Rattle.rules.specs.Cutting.{text}
@@ -8,7 +8,6 @@ use Rattle.rules.specs.Numbers.{digits, is_date, is_time}
 use Rattle.rules.specs.Refusals.{good_gs}
 use Rattle.text.proofs.Loops.{and_false}
 use Rattle.rules.specs.Refusals.{header_rules}
-use borrow.Author.Rules.{rules}
 use Rattle.group_header.proofs.header_refusal.Goals as goal
 
 pub returns-then-field_count-ne9 : goal.returns-then-field_count-ne9
