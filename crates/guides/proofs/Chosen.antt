@@ -1,5 +1,5 @@
 -- The table that stands where a set's is sought is the one that document 01 gives it.
-use mathlib.Core.Path.{◌≡◌, refl, ◌∙◌}
+use mathlib.Core.Path.{◌≡◌, refl}
 use mathlib.Core.Bool.{Bool, true, false, ◌&&◌, not}
 use mathlib.Core.List.{◌++◌}
 use mathlib.Core.Option.{Option, none, some}

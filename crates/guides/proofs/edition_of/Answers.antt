@@ -1,6 +1,5 @@
 -- `guides::edition_of` meets its contract.
 use Rattle.guides.specs.Choice.{edition_in}
-use borrow.Author.Rules.{rules}
 use Rattle.guides.proofs.edition_of.Goals as goal
 
 pub returns-then-same_bytes : goal.returns-then-same_bytes

@@ -2,7 +2,6 @@
 use mathlib.Core.Path.{sym, ◌∙◌}
 use Rattle.rules.specs.Base.{any}
 use Rattle.text.proofs.Loops.{or_false}
-use borrow.Author.Rules.{rules}
 use Rattle.guides.proofs.is_supported.Goals as goal
 
 pub returns-then-same_bytes : goal.returns-then-same_bytes

@@ -1,5 +1,4 @@
 -- `guides::scope_of` meets its contract.
-use borrow.Author.Rules.{rules}
 use Rattle.guides.specs.Choice.{scope_in}
 use Rattle.guides.proofs.scope_of.Goals as goal
 

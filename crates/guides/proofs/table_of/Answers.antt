@@ -1,5 +1,4 @@
 -- `guides::table_of` meets its contract.
-use borrow.Author.Rules.{rules}
 use borrow.Author.Tests.{not-true, not-false}
 use mathlib.Core.Path.{◌≡◌}
 use Rattle.guides.specs.Choice.{place_in, place_of}
