@@ -19,7 +19,6 @@ use Rattle.verdicts.specs.Collecting.{codes_of, collected}
 use Rattle.verdicts.specs.Verdicts.{trailer_if, set_code_rules, group_code_rules, summary_by, summary_of}
 use Rattle.verdicts.specs.declared.Codes.{Codes}
 use Rattle.verdicts.specs.declared.SetFacts.{SetFacts}
-use Rattle.verdicts.specs.declared.Summary.{Summary}
 use Rattle.verdicts.specs.declared.Tally.{Tally}
 use Rattle.verdicts.proofs.Collected.{collected_codes}
 

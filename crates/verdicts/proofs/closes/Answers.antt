@@ -2,11 +2,9 @@
 use mathlib.Core.Path.{◌≡◌, refl, sym, ap, ◌∙◌}
 use Prim.Native.Nat.{ℕ, ◌+◌, ◌-◌, ◌≤◌}
 use native.Mathlib.Omega.{arith}
-use borrow.Author.Rules.{rules}
 use lib.ListN.{length, drop, length-drop}
 use lib.Seq.{length-take-le}
 use Rattle.rules.specs.Base.{Bytes}
-use Rattle.rules.specs.Cutting.{field}
 use Rattle.text.specs.Text.{index_of, part}
 use Rattle.text.proofs.Search.{find_le}
 use Rattle.segments.proofs.Fields.{field_first, field_at, field_next}

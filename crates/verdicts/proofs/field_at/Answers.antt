@@ -1,5 +1,4 @@
 -- `verdicts::field_at` meets its contract.
-use borrow.Author.Rules.{rules}
 use Rattle.verdicts.proofs.field_at.Goals as goal
 
 pub returns : goal.returns

@@ -1,9 +1,7 @@
 -- `verdicts::included_sets` meets its contract.
 use Rattle.rules.specs.Numbers.{count_in}
 use mathlib.Core.Path.{sym, ◌∙◌}
-use borrow.Author.Tests.{not-true, not-false}
 use Rattle.text.proofs.Counts.{counted_some, counted_none}
-use borrow.Author.Rules.{rules}
 use Rattle.verdicts.proofs.included_sets.Goals as goal
 
 pub returns-then-not-closed : goal.returns-then-not-closed

@@ -1,7 +1,6 @@
 -- `verdicts::is_other_control` meets its contract.
 use mathlib.Core.Path.{ap}
 use mathlib.Core.Bool.{not}
-use borrow.Author.Rules.{rules}
 use Rattle.verdicts.proofs.is_other_control.Goals as goal
 
 pub returns-then-closed : goal.returns-then-closed

@@ -1,7 +1,6 @@
 -- `verdicts::is_other_count` meets its contract.
 use mathlib.Core.Path.{ap}
 use mathlib.Core.Bool.{not}
-use borrow.Author.Rules.{rules}
 use Rattle.verdicts.proofs.is_other_count.Goals as goal
 
 pub returns-then-closed : goal.returns-then-closed

@@ -5,7 +5,6 @@ use Rattle.verdicts.specs.Collecting.{collected, collected_from}
 use Rattle.verdicts.specs.Verdicts.{set_code_rules}
 use Rattle.verdicts.proofs.Collected.{then}
 use Rattle.verdicts.proofs.Laws.{closed_if}
-use borrow.Author.Rules.{rules}
 use Rattle.verdicts.proofs.set_codes.Goals as goal
 
 pub returns : goal.returns

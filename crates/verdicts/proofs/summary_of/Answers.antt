@@ -1,6 +1,5 @@
 -- `verdicts::summary_of` meets its contract.
 use Rattle.verdicts.proofs.Laws.{summary_made}
-use borrow.Author.Rules.{rules}
 use Rattle.verdicts.proofs.summary_of.Goals as goal
 
 pub returns : goal.returns

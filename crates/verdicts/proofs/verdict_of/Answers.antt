@@ -1,7 +1,6 @@
 -- `verdicts::verdict_of` meets its contract.
 use mathlib.Core.Path.{sym, ◌∙◌}
-use borrow.Author.Tests.{not-true, not-false, eq-eqb, ne_eqb}
-use borrow.Author.Rules.{rules}
+use borrow.Author.Tests.{eq-eqb, ne_eqb}
 use Rattle.verdicts.proofs.verdict_of.Goals as goal
 
 pub returns-then-not-is_empty : goal.returns-then-not-is_empty

@@ -1,8 +1,6 @@
 -- `verdicts::Codes::with` meets its contract.
 use mathlib.Core.Path.{sym}
-use borrow.Author.Tests.{not-true, not-false}
 use Rattle.verdicts.proofs.Collected.{with_not, with_one, with_full}
-use borrow.Author.Rules.{rules}
 use Rattle.verdicts.proofs.Codes.with.Goals as goal
 
 pub returns-then-not-applies : goal.returns-then-not-applies
