@@ -1,11 +1,6 @@
 -- `sets::next_set` meets its contract: from where the set goes on, the pieces that are left decide its end.
-use borrow.Author.Rules.{rules}
-use mathlib.Core.Path.{◌≡◌, sym, ◌∙◌}
-use Prim.Native.Nat.{◌+◌, ◌-◌, ◌≤◌}
-use lib.ListN.{length, drop}
-use Rattle.rules.specs.Cutting.{pieces}
+use mathlib.Core.Path.{sym, ◌∙◌}
 use Rattle.text.proofs.Search.{find_end}
-use Rattle.sets.specs.Places.{set_at, set_from}
 use Rattle.sets.specs.declared.Role.TheVariants.{Header, Trailer, Other}
 use Rattle.sets.proofs.Turns.{set_none, set_opens, set_turn, set_ends}
 use native.Mathlib.Omega.{arith}

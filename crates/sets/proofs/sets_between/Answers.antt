@@ -1,5 +1,5 @@
 -- `sets::sets_between` meets its contract.
-use borrow.Author.Tests.{eq-eqb, ne_eqb, not-true, not-false}
+use borrow.Author.Tests.{eq-eqb, ne_eqb}
 use Rattle.sets.proofs.sets_between.Goals as goal
 
 pub returns-then-end-at : goal.returns-then-end-at
