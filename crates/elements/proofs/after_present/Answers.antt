@@ -1,8 +1,8 @@
 -- `elements::after_present` meets its contract.
 use Rattle.elements.proofs.Notes.{rest}
-use Rattle.std.proofs.Common.{◌≡◌, ◌+◌, ◌-◌, ◌≤◌, length, drop, sym, ap, ◌∙◌, arith, rules}
+use Rattle.std.proofs.Common.{◌+◌, sym, ap, ◌∙◌, arith}
 use Rattle.rules.specs.Cutting.{split}
-use Rattle.rules.specs.Elements.{present, after_present}
+use Rattle.rules.specs.Elements.{present}
 use Rattle.elements.proofs.Notes.{after_here, after_later, after_none}
 use Rattle.elements.proofs.after_present.Goals as goal
 

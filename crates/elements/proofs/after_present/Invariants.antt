@@ -1,9 +1,7 @@
 -- `elements::after_present` meets its contract.
-use Rattle.elements.proofs.Notes.{rest}
-use Rattle.std.proofs.Common.{◌≡◌, ◌+◌, ◌-◌, ◌≤◌, length, drop, sym, ap, ◌∙◌, arith, rules}
+use Rattle.std.proofs.Common.{◌≡◌, ◌-◌, ◌≤◌, length, drop}
 use Rattle.rules.specs.Cutting.{split}
-use Rattle.rules.specs.Elements.{present, after_present}
-use Rattle.elements.proofs.Notes.{after_here, after_later, after_none}
+use Rattle.rules.specs.Elements.{after_present}
 use Rattle.elements.proofs.after_present.Given as goal
 
 abbrev pub invariant-loop-i : goal.invariant-loop-i

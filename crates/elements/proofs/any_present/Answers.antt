@@ -1,6 +1,5 @@
 -- `elements::any_present` meets its contract.
-use Rattle.std.proofs.Common.{◌≡◌, ◌-◌, true, false, length, drop, sym, ap, ◌∙◌, rules}
-use Rattle.rules.specs.Base.{any}
+use Rattle.std.proofs.Common.{true, false, sym, ap, ◌∙◌}
 use Rattle.rules.specs.Cutting.{split}
 use Rattle.rules.specs.Elements.{present}
 use Rattle.text.proofs.Loops.{any_step, any_end}

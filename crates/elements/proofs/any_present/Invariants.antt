@@ -1,9 +1,8 @@
 -- `elements::any_present` meets its contract.
-use Rattle.std.proofs.Common.{◌≡◌, ◌-◌, true, false, length, drop, sym, ap, ◌∙◌, rules}
+use Rattle.std.proofs.Common.{◌≡◌, ◌-◌, length, drop}
 use Rattle.rules.specs.Base.{any}
 use Rattle.rules.specs.Cutting.{split}
 use Rattle.rules.specs.Elements.{present}
-use Rattle.text.proofs.Loops.{any_step, any_end}
 use Rattle.elements.proofs.any_present.Given as goal
 
 abbrev pub invariant-loop-i : goal.invariant-loop-i

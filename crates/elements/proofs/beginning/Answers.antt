@@ -1,5 +1,5 @@
 -- `elements::beginning` meets its contract.
-use Rattle.std.proofs.Common.{◌+◌, arith, rules, le-ltb, lt-ltb}
+use Rattle.std.proofs.Common.{◌+◌, arith, le-ltb, lt-ltb}
 use Rattle.elements.proofs.beginning.Goals as goal
 
 pub returns-then-value-start : goal.returns-then-value-start

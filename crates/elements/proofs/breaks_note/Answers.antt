@@ -1,11 +1,10 @@
 -- `elements::breaks_note` meets its contract.
 use Rattle.elements.proofs.Notes.{breaks_not, alike}
-use Rattle.std.proofs.Common.{ℕ, List, sym, ap, ◌∙◌, length-take-le, rules}
+use Rattle.std.proofs.Common.{ℕ, List, sym, ap, ◌∙◌, length-take-le}
 use Rattle.rules.specs.Cutting.{split}
 use Rattle.tables.specs.Reading.{note_at}
 use Rattle.tables.proofs.Laws.{places_within, places_named}
 use Rattle.elements.specs.Notes.{breaks, is_e}
-use borrow.Author.Tests.{not-true, not-false}
 use Rattle.elements.proofs.breaks_note.Goals as goal
 
 pub returns-then-not-is_note : goal.returns-then-not-is_note

@@ -1,9 +1,5 @@
 -- `elements::breaks_notes` meets its contract.
-use Rattle.std.proofs.Common.{◌≡◌, ◌-◌, true, false, length, drop, sym, ◌∙◌, rules}
-use Rattle.rules.specs.Base.{any}
-use Rattle.rules.specs.Cutting.{split}
-use Rattle.tables.specs.Rows.{syntax_in}
-use Rattle.elements.specs.Notes.{breaks}
+use Rattle.std.proofs.Common.{true, false, sym, ◌∙◌}
 use Rattle.elements.proofs.Notes.{notes_step, notes_over, notes_past}
 use Rattle.elements.proofs.breaks_notes.Goals as goal
 

@@ -1,10 +1,9 @@
 -- `elements::breaks_notes` meets its contract.
-use Rattle.std.proofs.Common.{◌≡◌, ◌-◌, true, false, length, drop, sym, ◌∙◌, rules}
+use Rattle.std.proofs.Common.{◌≡◌, ◌-◌, length, drop}
 use Rattle.rules.specs.Base.{any}
 use Rattle.rules.specs.Cutting.{split}
 use Rattle.tables.specs.Rows.{syntax_in}
 use Rattle.elements.specs.Notes.{breaks}
-use Rattle.elements.proofs.Notes.{notes_step, notes_over, notes_past}
 use Rattle.elements.proofs.breaks_notes.Given as goal
 
 abbrev pub invariant-loop-k : goal.invariant-loop-k

@@ -1,5 +1,5 @@
 -- `elements::byte_code` meets its contract.
-use Rattle.std.proofs.Common.{sym, ◌∙◌, rules}
+use Rattle.std.proofs.Common.{sym, ◌∙◌}
 use Rattle.elements.proofs.Codes.{bytes_valid, bytes_repeat, bytes_bad}
 use Rattle.elements.proofs.byte_code.Goals as goal
 

@@ -1,7 +1,6 @@
 -- `elements::codes_at` meets its contract.
 use Rattle.elements.specs.Checks.{codes_at}
 use Rattle.elements.proofs.Places.{after_order, after_within}
-use Rattle.std.proofs.Common.{rules}
 use Rattle.elements.proofs.codes_at.Goals as goal
 
 pub slice_bounds-e-count : goal.slice_bounds-e-count

@@ -1,5 +1,5 @@
 -- `elements::date_code` meets its contract.
-use Rattle.std.proofs.Common.{sym, ◌∙◌, rules}
+use Rattle.std.proofs.Common.{sym, ◌∙◌}
 use Rattle.rules.specs.Base.{first}
 use Rattle.elements.proofs.date_code.Goals as goal
 

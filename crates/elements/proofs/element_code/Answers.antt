@@ -1,5 +1,5 @@
 -- `elements::element_code` meets its contract.
-use Rattle.std.proofs.Common.{sym, ◌∙◌, rules}
+use Rattle.std.proofs.Common.{sym, ◌∙◌}
 use Rattle.tables.specs.Reading.{row_at}
 use Rattle.elements.proofs.Codes.{code_empty, code_bytes, code_value}
 use Rattle.elements.proofs.element_code.Goals as goal

@@ -1,5 +1,5 @@
 -- `elements::empty_code` meets its contract.
-use Rattle.std.proofs.Common.{sym, ap, ◌∙◌, rules}
+use Rattle.std.proofs.Common.{sym, ap, ◌∙◌}
 use Rattle.rules.specs.Base.{first}
 use Rattle.tables.specs.declared.ElementRow.{ElementRow}
 use Rattle.elements.proofs.empty_code.Goals as goal

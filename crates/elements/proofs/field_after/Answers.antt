@@ -1,6 +1,5 @@
 -- `elements::field_after` meets its contract.
 use Rattle.elements.specs.Checks.{field_after}
-use Rattle.std.proofs.Common.{rules}
 use Rattle.elements.proofs.field_after.Goals as goal
 
 pub returns : goal.returns

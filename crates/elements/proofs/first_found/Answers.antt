@@ -1,6 +1,5 @@
 -- `elements::first_found` meets its contract.
 use Rattle.elements.specs.Checks as checks
-use Rattle.std.proofs.Common.{rules}
 use Rattle.elements.proofs.first_found.Goals as goal
 
 pub returns : goal.returns

@@ -1,5 +1,5 @@
 -- `elements::first_note` meets its contract.
-use Rattle.std.proofs.Common.{◌≡◌, ◌-◌, [], length, sym, ◌∙◌, rules}
+use Rattle.std.proofs.Common.{[], sym, ◌∙◌}
 use Rattle.text.proofs.Where.{next_here, next_later, next_none}
 use Rattle.elements.specs.Checks.{note_row}
 use Rattle.elements.proofs.first_note.Goals as goal

@@ -1,6 +1,5 @@
 -- `elements::first_note` meets its contract.
-use Rattle.std.proofs.Common.{◌≡◌, ◌-◌, [], length, sym, ◌∙◌, rules}
-use Rattle.text.proofs.Where.{next_here, next_later, next_none}
+use Rattle.std.proofs.Common.{◌≡◌, ◌-◌, length}
 use Rattle.elements.specs.Checks.{note_row}
 use Rattle.elements.proofs.first_note.Given as goal
 

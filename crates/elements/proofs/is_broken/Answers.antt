@@ -1,5 +1,4 @@
 -- `elements::is_broken` meets its contract.
-use Rattle.std.proofs.Common.{rules}
 use Rattle.elements.proofs.is_broken.Goals as goal
 
 pub returns-in-P : goal.returns-in-P

@@ -1,5 +1,4 @@
 -- `elements::is_number` meets its contract.
-use Rattle.std.proofs.Common.{rules}
 use Rattle.elements.proofs.is_number.Goals as goal
 
 pub returns-in-AN : goal.returns-in-AN

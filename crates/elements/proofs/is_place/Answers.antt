@@ -1,6 +1,5 @@
 -- `elements::is_place` meets its contract.
-use Rattle.std.proofs.Common.{◌≡◌, ◌-◌, true, false, eqb, length, drop, sym, ◌∙◌, rules, eq-eqb, ne_eqb}
-use Rattle.rules.specs.Base.{any}
+use Rattle.std.proofs.Common.{true, false, sym, ◌∙◌, eq-eqb, ne_eqb}
 use Rattle.text.proofs.Loops.{any_step, any_end}
 use Rattle.elements.proofs.is_place.Goals as goal
 

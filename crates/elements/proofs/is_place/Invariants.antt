@@ -1,7 +1,6 @@
 -- `elements::is_place` meets its contract.
-use Rattle.std.proofs.Common.{◌≡◌, ◌-◌, true, false, eqb, length, drop, sym, ◌∙◌, rules, eq-eqb, ne_eqb}
+use Rattle.std.proofs.Common.{◌≡◌, ◌-◌, eqb, length, drop}
 use Rattle.rules.specs.Base.{any}
-use Rattle.text.proofs.Loops.{any_step, any_end}
 use Rattle.elements.proofs.is_place.Given as goal
 
 abbrev pub invariant-loop-i : goal.invariant-loop-i

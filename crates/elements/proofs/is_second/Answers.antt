@@ -1,8 +1,7 @@
 -- `elements::is_second` meets its contract.
 use Rattle.rules.specs.Cutting.{split}
 use Rattle.elements.proofs.Notes.{second}
-use Rattle.std.proofs.Common.{sym, ◌∙◌, rules}
-use borrow.Author.Tests.{not-true, not-false}
+use Rattle.std.proofs.Common.{sym, ◌∙◌}
 use Rattle.elements.proofs.is_second.Goals as goal
 
 pub returns-then-not-is_present : goal.returns-then-not-is_present

@@ -1,6 +1,5 @@
 -- `elements::is_spelled` meets its contract.
-use Rattle.std.proofs.Common.{sym, ◌∙◌, rules}
-use borrow.Author.Tests.{not-true, not-false}
+use Rattle.std.proofs.Common.{sym, ◌∙◌}
 use Rattle.elements.proofs.is_spelled.Goals as goal
 
 pub returns-then-not-is_number : goal.returns-then-not-is_number

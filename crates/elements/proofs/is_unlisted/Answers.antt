@@ -1,6 +1,5 @@
 -- `elements::is_unlisted` meets its contract.
-use Rattle.std.proofs.Common.{sym, ◌∙◌, rules}
-use borrow.Author.Tests.{not-true, not-false}
+use Rattle.std.proofs.Common.{sym, ◌∙◌}
 use Rattle.elements.proofs.is_unlisted.Goals as goal
 
 pub returns-then-not-has_values : goal.returns-then-not-has_values

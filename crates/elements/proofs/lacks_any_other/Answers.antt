@@ -1,5 +1,5 @@
 -- `elements::lacks_any_other` meets its contract.
-use Rattle.std.proofs.Common.{sym, ◌∙◌, rules, eq-eqb, ne_eqb}
+use Rattle.std.proofs.Common.{sym, ◌∙◌, eq-eqb, ne_eqb}
 use Rattle.rules.specs.Cutting.{split}
 use Rattle.elements.proofs.Notes.{any_other_few, any_other_some}
 use Rattle.elements.proofs.lacks_any_other.Goals as goal

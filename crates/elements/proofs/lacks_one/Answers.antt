@@ -1,5 +1,5 @@
 -- `elements::lacks_one` meets its contract.
-use Rattle.std.proofs.Common.{sym, ◌∙◌, rules, eq-eqb, ne_eqb}
+use Rattle.std.proofs.Common.{sym, ◌∙◌, eq-eqb, ne_eqb}
 use Rattle.rules.specs.Cutting.{split}
 use Rattle.elements.proofs.Notes.{one_none, one_some}
 use Rattle.elements.proofs.lacks_one.Goals as goal

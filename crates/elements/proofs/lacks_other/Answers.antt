@@ -1,6 +1,5 @@
 -- `elements::lacks_other` meets its contract.
-use Rattle.std.proofs.Common.{sym, ◌∙◌, rules}
-use borrow.Author.Tests.{not-true, not-false}
+use Rattle.std.proofs.Common.{sym, ◌∙◌}
 use Rattle.rules.specs.Cutting.{split}
 use Rattle.elements.proofs.Notes.{other_none, other_some}
 use Rattle.elements.proofs.lacks_other.Goals as goal

@@ -1,6 +1,5 @@
 -- `elements::lacks_pair` meets its contract.
-use Rattle.std.proofs.Common.{sym, ◌∙◌, rules}
-use borrow.Author.Tests.{not-true, not-false}
+use Rattle.std.proofs.Common.{sym, ◌∙◌}
 use Rattle.rules.specs.Cutting.{split}
 use Rattle.elements.proofs.Notes.{pair}
 use Rattle.elements.proofs.lacks_pair.Goals as goal

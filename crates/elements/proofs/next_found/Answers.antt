@@ -1,7 +1,5 @@
 -- `elements::next_found` meets its contract.
-use Rattle.std.proofs.Common.{◌≡◌, ◌-◌, length, sym, ap, ◌∙◌, ⊎_elim, arith, rules}
-use borrow.Author.Tests.{not-true, not-false}
-use Rattle.elements.specs.Checks.{next_found}
+use Rattle.std.proofs.Common.{sym, ap, ◌∙◌, arith}
 use Rattle.elements.specs.declared.Cursor.{Cursor}
 use Rattle.elements.proofs.Checks.{found_end, found_stop, found_over, found_here, found_later}
 use Rattle.elements.proofs.next_found.Goals as goal
@@ -44,6 +42,6 @@ returns c =
     c.surplus.ensures
     ∙ sym (c.loop-c.invariant
     ∙ elim c.loop-c-test.branch [
-      then-loop-c-test+else-not-is_segment w ↦ found_stop a.d a.s.now a.guide.now v w.loop-c-test.true (sym w.is_segment.ensures ∙ w.if-not-is_segment.false)
-    | else-loop-c-test w ↦ found_end a.d a.s.now a.guide.now v w.loop-c-test.false
+      | then-loop-c-test+else-not-is_segment w ↦ found_stop a.d a.s.now a.guide.now v w.loop-c-test.true (sym w.is_segment.ensures ∙ w.if-not-is_segment.false)
+      | else-loop-c-test w ↦ found_end a.d a.s.now a.guide.now v w.loop-c-test.false
     ])

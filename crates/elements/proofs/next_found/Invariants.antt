@@ -1,9 +1,6 @@
 -- `elements::next_found` meets its contract.
-use Rattle.std.proofs.Common.{◌≡◌, ◌-◌, length, sym, ap, ◌∙◌, ⊎_elim, arith, rules}
-use borrow.Author.Tests.{not-true, not-false}
+use Rattle.std.proofs.Common.{◌≡◌, ◌-◌, length}
 use Rattle.elements.specs.Checks.{next_found}
-use Rattle.elements.specs.declared.Cursor.{Cursor}
-use Rattle.elements.proofs.Checks.{found_end, found_stop, found_over, found_here, found_later}
 use Rattle.elements.proofs.next_found.Given as goal
 
 abbrev pub invariant-loop-c : goal.invariant-loop-c

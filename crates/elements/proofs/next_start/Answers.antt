@@ -1,5 +1,5 @@
 -- `elements::next_start` meets its contract.
-use Rattle.std.proofs.Common.{rules, le-ltb, lt-ltb}
+use Rattle.std.proofs.Common.{le-ltb, lt-ltb}
 use Rattle.elements.specs.Checks.{next_start}
 use Rattle.elements.proofs.next_start.Goals as goal
 

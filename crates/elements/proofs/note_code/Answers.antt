@@ -1,5 +1,5 @@
 -- `elements::note_code` meets its contract.
-use Rattle.std.proofs.Common.{sym, ◌∙◌, rules}
+use Rattle.std.proofs.Common.{sym, ◌∙◌}
 use borrow.Author.Tests.{not-true, not-false}
 use Rattle.elements.proofs.note_code.Goals as goal
 

@@ -1,5 +1,5 @@
 -- `elements::place_after` meets its contract.
-use Rattle.std.proofs.Common.{rules, le-ltb, lt-ltb}
+use Rattle.std.proofs.Common.{le-ltb, lt-ltb}
 use Rattle.elements.proofs.place_after.Goals as goal
 
 pub returns-then-n-lt-LARGEST : goal.returns-then-n-lt-LARGEST

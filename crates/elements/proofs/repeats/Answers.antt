@@ -1,6 +1,5 @@
 -- `elements::repeats` meets its contract.
-use Rattle.std.proofs.Common.{◌≡◌, ◌-◌, true, false, length, drop, sym, ◌∙◌, rules}
-use Rattle.rules.specs.Elements.{repeats}
+use Rattle.std.proofs.Common.{true, false, sym, ◌∙◌}
 use Rattle.text.proofs.Loops.{any_step, any_end}
 use Rattle.elements.proofs.repeats.Goals as goal
 

@@ -1,7 +1,6 @@
 -- `elements::repeats` meets its contract.
-use Rattle.std.proofs.Common.{◌≡◌, ◌-◌, true, false, length, drop, sym, ◌∙◌, rules}
+use Rattle.std.proofs.Common.{◌≡◌, ◌-◌, length, drop}
 use Rattle.rules.specs.Elements.{repeats}
-use Rattle.text.proofs.Loops.{any_step, any_end}
 use Rattle.elements.proofs.repeats.Given as goal
 
 abbrev pub invariant-loop-i : goal.invariant-loop-i

@@ -1,5 +1,5 @@
 -- `elements::rule_code` meets its contract.
-use Rattle.std.proofs.Common.{sym, ap, ◌∙◌, rules}
+use Rattle.std.proofs.Common.{sym, ap, ◌∙◌}
 use Rattle.rules.specs.Base.{first}
 use Rattle.rules.specs.declared.Kind.{Kind}
 use Rattle.elements.specs.Values.{rule_code}

@@ -1,5 +1,5 @@
 -- `elements::takes` meets its contract.
-use Rattle.std.proofs.Common.{ℕ, eqb, sym, ap, ◌∙◌, rules}
+use Rattle.std.proofs.Common.{ℕ, eqb, sym, ap, ◌∙◌}
 use Rattle.tables.specs.Reading.{row_at}
 use Rattle.elements.proofs.Codes.{valid_empty, valid_filled}
 use Rattle.elements.proofs.takes.Goals as goal

@@ -1,5 +1,5 @@
 -- `elements::takes_length` meets its contract.
-use Rattle.std.proofs.Common.{sym, refl, ◌∙◌, rules, le-leb}
+use Rattle.std.proofs.Common.{sym, refl, ◌∙◌, le-leb}
 use borrow.Author.Tests.{not-true, not-false, lt-leb}
 use Rattle.tables.specs.Reading.{row_at}
 use Rattle.elements.proofs.Codes.{length_by}

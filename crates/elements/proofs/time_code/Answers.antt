@@ -1,5 +1,5 @@
 -- `elements::time_code` meets its contract.
-use Rattle.std.proofs.Common.{sym, ◌∙◌, rules}
+use Rattle.std.proofs.Common.{sym, ◌∙◌}
 use Rattle.rules.specs.Base.{first}
 use Rattle.elements.proofs.time_code.Goals as goal
 

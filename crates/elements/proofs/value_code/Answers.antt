@@ -1,5 +1,5 @@
 -- `elements::value_code` meets its contract.
-use Rattle.std.proofs.Common.{sym, refl, ◌∙◌, rules, le-ltb, lt-ltb}
+use Rattle.std.proofs.Common.{sym, refl, ◌∙◌, le-ltb, lt-ltb}
 use borrow.Author.Tests.{not-true, not-false}
 use Rattle.tables.specs.Reading.{row_at}
 use Rattle.elements.proofs.Codes.{value_by}

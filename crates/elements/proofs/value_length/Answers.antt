@@ -1,5 +1,5 @@
 -- `elements::value_length` meets its contract.
-use Rattle.std.proofs.Common.{sym, ◌∙◌, rules}
+use Rattle.std.proofs.Common.{sym, ◌∙◌}
 use Rattle.elements.proofs.value_length.Goals as goal
 
 pub returns-then-is_number : goal.returns-then-is_number

@@ -1,9 +1,7 @@
 -- `elements::Marks::all_of` meets its contract.
-use Rattle.std.proofs.Common.{◌≡◌, ◌-◌, true, false, length, drop, sym, ap, ◌∙◌, rules}
-use Rattle.rules.specs.Base.{all}
+use Rattle.std.proofs.Common.{true, false, sym, ap, ◌∙◌}
 use Rattle.text.proofs.Loops.{all_step, all_end}
 use Rattle.elements.specs.Marks.{marked}
-use borrow.Author.Tests.{not-true, not-false}
 use Rattle.elements.proofs.Marks.all_of.Goals as goal
 
 pub returns-then-not-has : goal.returns-then-not-has

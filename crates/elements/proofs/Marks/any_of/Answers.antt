@@ -1,6 +1,5 @@
 -- `elements::Marks::any_of` meets its contract.
-use Rattle.std.proofs.Common.{◌≡◌, ◌-◌, true, false, length, drop, sym, ap, ◌∙◌, rules}
-use Rattle.rules.specs.Base.{any}
+use Rattle.std.proofs.Common.{true, false, sym, ap, ◌∙◌}
 use Rattle.text.proofs.Loops.{any_step, any_end}
 use Rattle.elements.specs.Marks.{marked}
 use Rattle.elements.proofs.Marks.any_of.Goals as goal

@@ -1,7 +1,6 @@
 -- `elements::Marks::any_of` meets its contract.
-use Rattle.std.proofs.Common.{◌≡◌, ◌-◌, true, false, length, drop, sym, ap, ◌∙◌, rules}
+use Rattle.std.proofs.Common.{◌≡◌, ◌-◌, length, drop}
 use Rattle.rules.specs.Base.{any}
-use Rattle.text.proofs.Loops.{any_step, any_end}
 use Rattle.elements.specs.Marks.{marked}
 use Rattle.elements.proofs.Marks.any_of.Given as goal
 

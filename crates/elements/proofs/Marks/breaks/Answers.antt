@@ -1,5 +1,4 @@
 -- `elements::Marks::breaks` meets its contract.
-use Rattle.std.proofs.Common.{rules}
 use Rattle.elements.proofs.Marks.breaks.Goals as goal
 
 pub returns-in-P : goal.returns-in-P

@@ -1,8 +1,7 @@
 -- `elements::Marks::breaks_note` meets its contract.
-use Rattle.std.proofs.Common.{ℕ, List, sym, ap, ◌∙◌, length-take-le, rules}
+use Rattle.std.proofs.Common.{ℕ, List, sym, ap, ◌∙◌, length-take-le}
 use Rattle.tables.proofs.Laws.{places_within, places_named}
 use Rattle.elements.specs.Marks.{marked, broken_by}
-use borrow.Author.Tests.{not-true, not-false}
 use Rattle.elements.proofs.Marks.breaks_note.Goals as goal
 
 pub returns-then-not-is_note : goal.returns-then-not-is_note

@@ -1,5 +1,5 @@
 -- `elements::Marks::has` meets its contract.
-use Rattle.std.proofs.Common.{refl, rules}
+use Rattle.std.proofs.Common.{refl}
 use Rattle.elements.specs.Marks.{marked}
 use Rattle.elements.proofs.Marks.has.Goals as goal
 

@@ -1,5 +1,5 @@
 -- `elements::Marks::only_first` meets its contract.
-use Rattle.std.proofs.Common.{length, arith, rules, le-ltb, lt-ltb}
+use Rattle.std.proofs.Common.{length, arith, le-ltb, lt-ltb}
 use Rattle.elements.proofs.Notes.{rest}
 use Rattle.elements.proofs.Marks.only_first.Goals as goal
 

@@ -1,6 +1,6 @@
 -- `elements::Marks::two_of` meets its contract.
-use Rattle.std.proofs.Common.{◌≡◌, ◌+◌, ◌-◌, length, drop, sym, ap, ◌∙◌, rules}
-use Rattle.elements.specs.Marks.{marked, two}
+use Rattle.std.proofs.Common.{◌+◌, sym, ap, ◌∙◌}
+use Rattle.elements.specs.Marks.{marked}
 use Rattle.elements.proofs.Notes.{rest}
 use Rattle.elements.proofs.Broken.{two_here, two_later, two_none}
 use Rattle.elements.proofs.Marks.two_of.Goals as goal

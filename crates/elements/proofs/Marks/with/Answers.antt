@@ -1,5 +1,5 @@
 -- `elements::Marks::with` meets its contract.
-use Rattle.std.proofs.Common.{◌∙◌, ⊎_elim, rules}
+use Rattle.std.proofs.Common.{◌∙◌}
 use Rattle.elements.specs.Marks.{marked_with}
 use Rattle.elements.proofs.Marks.with.Goals as goal
 use Rattle.elements.proofs.Marks.with.Goals.{then-present, else-present}

@@ -1,5 +1,4 @@
 -- `elements::PlaceCodes::echo` meets its contract.
-use Rattle.std.proofs.Common.{rules}
 use Rattle.elements.specs.Checks.{echo_at}
 use Rattle.elements.proofs.PlaceCodes.echo.Goals as goal
 

@@ -1,5 +1,4 @@
 -- `elements::PlaceCodes::finding` meets its contract.
-use Rattle.std.proofs.Common.{rules}
 use Rattle.elements.proofs.PlaceCodes.finding.Goals as goal
 
 pub returns : goal.returns
