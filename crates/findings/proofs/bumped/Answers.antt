@@ -1,6 +1,5 @@
 -- `findings::bumped` meets its contract.
 use borrow.Author.Tests.{lt-ltb, le-ltb}
-use borrow.Author.Rules.{rules}
 use Rattle.findings.proofs.bumped.Goals as goal
 
 pub returns-then-n-lt-LARGEST : goal.returns-then-n-lt-LARGEST

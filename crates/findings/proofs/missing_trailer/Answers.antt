@@ -3,7 +3,6 @@ use Rattle.findings.specs.Steps as steps
 use Rattle.findings.proofs.Other.{not_later}
 use mathlib.Core.Path.{◌≡◌, refl}
 use Rattle.findings.specs.declared.Step.TheVariants.{Done}
-use borrow.Author.Rules.{rules}
 use Rattle.findings.proofs.missing_trailer.Goals as goal
 
 pub returns-in-Later : goal.returns-in-Later

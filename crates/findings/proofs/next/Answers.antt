@@ -3,7 +3,6 @@ use borrow.Author.Tests.{lt-ltb, le-ltb}
 use Rattle.text.proofs.Search.{find_end}
 use Rattle.findings.specs.Steps as steps
 use native.Mathlib.Omega.{arith}
-use borrow.Author.Rules.{rules}
 use Rattle.findings.proofs.next.Goals as goal
 
 pub slice_bounds-id-end : goal.slice_bounds-id-end

@@ -1,8 +1,6 @@
 -- `findings::next_missing` meets its contract.
 use borrow.Author.Tests.{lt-ltb, le-ltb}
-use mathlib.Core.Logic.{⊎_elim}
 use Rattle.findings.specs.Steps.{next_missing}
-use borrow.Author.Rules.{rules}
 use Rattle.findings.proofs.next_missing.Goals as goal
 use Rattle.findings.proofs.next_missing.Goals.{else-row-end-via-then-row-end+else-row-guide, else-row-end-via-else-row-end}
 

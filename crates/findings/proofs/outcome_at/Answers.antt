@@ -1,7 +1,6 @@
 -- `findings::outcome_at` meets its contract.
 use borrow.Author.Tests.{eq-eqb, ne_eqb}
 use Rattle.findings.specs.Steps as steps
-use borrow.Author.Rules.{rules}
 use Rattle.findings.proofs.outcome_at.Goals as goal
 
 pub returns-then-w-eq0 : goal.returns-then-w-eq0

@@ -1,6 +1,5 @@
 -- `findings::outcome_of` meets its contract.
 use Rattle.findings.specs.Steps as steps
-use borrow.Author.Rules.{rules}
 use Rattle.findings.proofs.outcome_of.Goals as goal
 
 pub returns-in-Unknown : goal.returns-in-Unknown

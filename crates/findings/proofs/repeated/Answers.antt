@@ -1,6 +1,5 @@
 -- `findings::repeated` meets its contract.
 use Rattle.findings.specs.Steps as steps
-use borrow.Author.Rules.{rules}
 use Rattle.findings.proofs.repeated.Goals as goal
 
 pub returns : goal.returns

@@ -1,6 +1,5 @@
 -- `findings::segment` meets its contract.
 use Rattle.findings.specs.Steps as steps
-use borrow.Author.Rules.{rules}
 use Rattle.findings.proofs.segment.Goals as goal
 
 pub returns : goal.returns

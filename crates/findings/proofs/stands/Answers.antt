@@ -2,11 +2,10 @@
 use mathlib.Core.Path.{◌≡◌}
 use lib.Dec.{ltb}
 use lib.ListN.{length}
-use borrow.Author.Tests.{lt-ltb, le-ltb, not-true, not-false}
+use borrow.Author.Tests.{lt-ltb, le-ltb}
 use Rattle.rules.specs.Base.{if◌then◌else◌}
 use Rattle.findings.specs.Steps as steps
 use Rattle.findings.specs.declared.Standing.TheVariants.{Unlisted}
-use borrow.Author.Rules.{rules}
 use Rattle.findings.proofs.stands.Goals as goal
 
 pub returns-then-not-is_known : goal.returns-then-not-is_known

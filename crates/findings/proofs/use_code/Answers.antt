@@ -1,5 +1,4 @@
 -- `findings::use_code` meets its contract.
-use borrow.Author.Rules.{rules}
 use borrow.Author.Tests.{lt-ltb, le-ltb}
 use Rattle.findings.proofs.use_code.Goals as goal
 
