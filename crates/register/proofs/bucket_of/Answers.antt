@@ -1,11 +1,7 @@
 -- `register::bucket_of` meets its contract: the bytes that are left decide.
-use Prim.Native.Nat.{◌-◌, ◌<◌}
-use mathlib.Core.Path.{◌≡◌, refl, sym, ◌∙◌}
+use mathlib.Core.Path.{refl, sym, ◌∙◌}
 use native.Mathlib.Nat.{mod-lt}
 use native.Mathlib.Omega.{arith}
-use borrow.Author.Rules.{rules}
-use lib.ListN.{length, drop}
-use Rattle.register.specs.Trees.{bucket_from, bucket_of}
 use Rattle.register.proofs.Trees.{bucket_step, bucket_end}
 use Rattle.register.proofs.bucket_of.Goals as goal
 

@@ -1,6 +1,5 @@
 -- `register::control_start` meets its contract.
 use mathlib.Core.Path.{◌∙◌}
-use borrow.Author.Rules.{rules}
 use Rattle.register.proofs.Fields.{control_field}
 use Rattle.register.proofs.control_start.Goals as goal
 

@@ -1,9 +1,6 @@
 -- `register::field_end` meets its contract: what is left of the field decides its end.
-use Prim.Native.Nat.{◌+◌, ◌-◌}
-use mathlib.Core.Path.{◌≡◌, refl, ap}
-use borrow.Author.Rules.{rules}
-use lib.ListN.{length, drop}
-use Rattle.register.specs.Fields.{field_in}
+use mathlib.Core.Path.{refl, ap}
+use lib.ListN.{length}
 use Rattle.register.proofs.Fields.{field_past, field_none, field_cut, field_kept}
 use native.Mathlib.Omega.{arith}
 use Rattle.register.proofs.field_end.Goals as goal

@@ -1,11 +1,8 @@
 -- `register::field_end` meets its contract: what is left of the field decides its end.
 use Prim.Native.Nat.{◌+◌, ◌-◌}
-use mathlib.Core.Path.{◌≡◌, refl, ap}
-use borrow.Author.Rules.{rules}
+use mathlib.Core.Path.{◌≡◌}
 use lib.ListN.{length, drop}
 use Rattle.register.specs.Fields.{field_in}
-use Rattle.register.proofs.Fields.{field_past, field_none, field_cut, field_kept}
-use native.Mathlib.Omega.{arith}
 use Rattle.register.proofs.field_end.Given as goal
 
 abbrev pub invariant-loop-i : goal.invariant-loop-i

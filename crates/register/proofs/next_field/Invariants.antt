@@ -1,11 +1,8 @@
 -- `register::next_field` meets its contract: what is left decides each later field.
 use Prim.Native.Nat.{ℕ, suc, ◌-◌}
-use mathlib.Core.Path.{◌≡◌, refl, sym, ◌∙◌}
-use borrow.Author.Rules.{rules}
+use mathlib.Core.Path.{◌≡◌}
 use lib.ListN.{length, drop}
 use Rattle.register.specs.Fields.{field_in}
-use Rattle.register.proofs.Fields.{field_past, field_none, field_next, field_skip}
-use native.Mathlib.Omega.{arith}
 use Rattle.register.proofs.next_field.Given as goal
 
 abbrev pub invariant-loop-i : goal.invariant-loop-i

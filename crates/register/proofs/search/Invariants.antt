@@ -1,19 +1,9 @@
 -- `register::search` meets its contract: what is found from the slot that the search is at decides, and of two numbers the bytes that were compared.
-use Prim.Native.Nat.{◌+◌, ◌-◌, ◌≤◌, ◌<◌}
-use mathlib.Core.Path.{◌≡◌, refl, sym, ◌∙◌}
-use mathlib.Core.Bool.{Bool, true, false}
-use borrow.Author.Rules.{rules}
-use borrow.Author.Tests.{eq-eqb, ne_eqb}
-use native.Mathlib.Nat.{sub_self}
-use lib.Dec.{eqb}
-use lib.ListN.{length, take, drop, drop_of_length-le}
-use Rattle.rules.specs.Base.{same}
-use Rattle.register.specs.Fields.{field_in}
+use Prim.Native.Nat.{◌+◌, ◌-◌, ◌≤◌}
+use mathlib.Core.Path.{◌≡◌}
+use lib.ListN.{length, take, drop}
 use Rattle.register.specs.Trees as trees
 use Rattle.register.specs.declared.Found.TheVariants.{Repeated}
-use Rattle.register.proofs.Fields.{value_longer, value_differs, value_turn, value_ends}
-use Rattle.register.proofs.Trees.{bits_below, walk_ends, search_step}
-use native.Mathlib.Omega.{arith}
 use Rattle.register.proofs.search.Given as goal
 
 abbrev pub invariant-loop-j : goal.invariant-loop-j
