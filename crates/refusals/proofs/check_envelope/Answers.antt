@@ -1,8 +1,6 @@
 -- `refusals::check_envelope` meets its contract: the last byte, the places, and IEA.
 use mathlib.Core.Path.{sym, ◌∙◌}
-use borrow.Author.Tests.{not-true, not-false}
 use Rattle.refusals.proofs.Laws.{unterminated, misplaced, placed}
-use borrow.Author.Rules.{rules}
 use Rattle.refusals.proofs.check_envelope.Goals as goal
 
 pub returns-then-not-is_terminated : goal.returns-then-not-is_terminated

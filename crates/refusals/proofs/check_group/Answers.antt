@@ -3,7 +3,6 @@ use mathlib.Core.Path.{sym, ◌∙◌}
 use native.Mathlib.Omega.{arith}
 use Rattle.text.proofs.Search.{find_end}
 use Rattle.refusals.proofs.Laws.{header_refuses, header_within, answer_refuses, sets_refuse, none_refuses}
-use borrow.Author.Rules.{rules}
 use Rattle.refusals.proofs.check_group.Goals as goal
 
 pub returns-then-n-ne0 : goal.returns-then-n-ne0

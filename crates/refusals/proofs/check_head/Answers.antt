@@ -1,7 +1,6 @@
 -- `refusals::check_head` meets its contract: the caller's numbers, then ISA.
 use mathlib.Core.Path.{◌∙◌}
 use Rattle.refusals.proofs.Laws.{call_refused, call_passed}
-use borrow.Author.Rules.{rules}
 use Rattle.refusals.proofs.check_head.Goals as goal
 
 pub returns-then-n-ne0 : goal.returns-then-n-ne0

@@ -1,7 +1,6 @@
 -- `refusals::check_trailer` meets its contract: each fault of IEA is one of the envelope.
 use mathlib.Core.Path.{sym, ◌∙◌}
 use Rattle.refusals.proofs.Laws.{trailer_checked}
-use borrow.Author.Rules.{rules}
 use Rattle.refusals.proofs.check_trailer.Goals as goal
 
 pub returns-in-None : goal.returns-in-None
