@@ -1,6 +1,5 @@
 -- `look::after` meets its contract.
 use Rattle.look.specs.Looking.{afterward}
-use borrow.Author.Rules.{rules}
 use Rattle.look.proofs.after.Goals as goal
 
 pub returns-then-same_bytes : goal.returns-then-same_bytes

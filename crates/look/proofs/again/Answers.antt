@@ -1,6 +1,5 @@
 -- `look::again` meets its contract.
 use borrow.Author.Tests.{le-leb, lt-leb}
-use borrow.Author.Rules.{rules}
 use Rattle.look.proofs.again.Goals as goal
 
 pub returns-then-most_uses-c : goal.returns-then-most_uses-c

@@ -1,7 +1,6 @@
 -- `look::go_on` meets its contract.
 use mathlib.Core.Path.{sym, ◌∙◌}
 use native.Mathlib.Omega.{arith}
-use borrow.Author.Rules.{rules}
 use borrow.Author.Tests.{le-ltb}
 use Rattle.look.specs.Looking.{step_at}
 use Rattle.look.proofs.Within.{id_ends, id_length, end_within, step_odd, step_faulty, step_clean}

@@ -1,7 +1,6 @@
 -- `look::look_at` meets its contract.
 use mathlib.Core.Path.{sym, ◌∙◌}
 use native.Mathlib.Omega.{arith}
-use borrow.Author.Rules.{rules}
 use borrow.Author.Tests.{le-ltb}
 use Rattle.look.specs.Looking.{looked}
 use Rattle.look.proofs.Within.{id_ends, end_within, open_faulty, open_clean}

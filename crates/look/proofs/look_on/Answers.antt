@@ -1,11 +1,7 @@
 -- `look::look_on` meets its contract.
-use Prim.Native.Nat.{◌+◌, ◌-◌, ◌≤◌}
-use mathlib.Core.Path.{◌≡◌, refl, sym, ◌∙◌}
+use mathlib.Core.Path.{refl, sym, ◌∙◌}
 use native.Mathlib.Omega.{arith}
-use borrow.Author.Rules.{rules}
-use lib.ListN.{length}
-use Rattle.look.specs.Looking.{look_from}
-use Rattle.look.proofs.Within.{look_at, step_goes, look_start, look_on, look_closed, look_odd}
+use Rattle.look.proofs.Within.{step_goes, look_start, look_on, look_closed, look_odd}
 use Rattle.look.proofs.look_on.Goals as goal
 
 pub loop-further-init : goal.loop-further-init

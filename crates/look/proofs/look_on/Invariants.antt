@@ -1,11 +1,9 @@
 -- `look::look_on` meets its contract.
 use Prim.Native.Nat.{◌+◌, ◌-◌, ◌≤◌}
-use mathlib.Core.Path.{◌≡◌, refl, sym, ◌∙◌}
-use native.Mathlib.Omega.{arith}
-use borrow.Author.Rules.{rules}
+use mathlib.Core.Path.{◌≡◌}
 use lib.ListN.{length}
 use Rattle.look.specs.Looking.{look_from}
-use Rattle.look.proofs.Within.{look_at, step_goes, look_start, look_on, look_closed, look_odd}
+use Rattle.look.proofs.Within.{look_at}
 use Rattle.look.proofs.look_on.Given as goal
 
 abbrev pub invariant-loop-further : goal.invariant-loop-further

@@ -1,6 +1,5 @@
 -- `look::turn_on` meets its contract.
 use Rattle.look.specs.Looking.{turn_on}
-use borrow.Author.Rules.{rules}
 use Rattle.look.proofs.turn_on.Goals as goal
 
 pub returns-then-is_entry : goal.returns-then-is_entry

@@ -1,12 +1,7 @@
 -- `look::segment::find_invalid` meets its contract.
-use Prim.Native.Nat.{◌-◌}
-use mathlib.Core.Path.{◌≡◌, sym, ◌∙◌}
+use mathlib.Core.Path.{sym, ◌∙◌}
 use native.Mathlib.Omega.{arith}
-use borrow.Author.Rules.{rules}
-use lib.ListN.{length}
-use Rattle.text.specs.Text.{next_where}
 use Rattle.text.proofs.Where.{next_here, next_later, next_none}
-use Rattle.look.specs.Bytes.{is_other}
 use Rattle.look.proofs.segment.find_invalid.Goals as goal
 
 pub overflow_cast-s : goal.overflow_cast-s

@@ -1,11 +1,8 @@
 -- `look::segment::find_invalid` meets its contract.
 use Prim.Native.Nat.{◌-◌}
-use mathlib.Core.Path.{◌≡◌, sym, ◌∙◌}
-use native.Mathlib.Omega.{arith}
-use borrow.Author.Rules.{rules}
+use mathlib.Core.Path.{◌≡◌}
 use lib.ListN.{length}
 use Rattle.text.specs.Text.{next_where}
-use Rattle.text.proofs.Where.{next_here, next_later, next_none}
 use Rattle.look.specs.Bytes.{is_other}
 use Rattle.look.proofs.segment.find_invalid.Given as goal
 

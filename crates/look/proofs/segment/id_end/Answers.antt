@@ -1,11 +1,6 @@
 -- `look::segment::id_end` meets its contract.
-use Prim.Native.Nat.{◌-◌}
-use mathlib.Core.Path.{◌≡◌, sym, ◌∙◌}
-use mathlib.Core.Bool.{◌||◌}
+use mathlib.Core.Path.{sym, ◌∙◌}
 use borrow.Author.Rules.{rules}
-use lib.Dec.{eqb}
-use lib.ListN.{length}
-use Rattle.text.specs.Text.{next_where}
 use Rattle.text.proofs.Where.{next_here, next_later, next_none}
 use Rattle.look.specs.Passing.{id_end}
 use Rattle.look.proofs.segment.id_end.Goals as goal

@@ -1,6 +1,5 @@
 -- `look::segment::is_over` meets its contract.
 use borrow.Author.Tests.{lt-ltb, le-ltb}
-use borrow.Author.Rules.{rules}
 use Rattle.look.specs.Passing.{is_over}
 use Rattle.look.proofs.segment.is_over.Goals as goal
 

@@ -2,7 +2,6 @@
 use mathlib.Core.Path.{sym, ◌∙◌}
 use Rattle.tables.specs.Reading.{row_at}
 use Rattle.look.proofs.Reading.{taken_by}
-use borrow.Author.Rules.{rules}
 use Rattle.look.proofs.segment.is_taken.Goals as goal
 
 pub returns-then-takes_length : goal.returns-then-takes_length

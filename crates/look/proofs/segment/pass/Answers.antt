@@ -1,12 +1,7 @@
 -- `look::segment::pass` meets its contract.
 use mathlib.Core.Path.{sym, ◌∙◌}
-use mathlib.Core.Logic.{⊎_elim}
-use Prim.Native.Nat.{◌-◌}
 use native.Mathlib.Omega.{arith}
-use borrow.Author.Rules.{rules}
-use borrow.Author.Tests.{not-true, not-false}
-use lib.ListN.{length}
-use Rattle.look.proofs.Reading.{ReadTo, Ended, ended_segment, ended_past, field_ends, read_over, read_broken, read_taken, read_refused, read_ended}
+use Rattle.look.proofs.Reading.{Ended, ended_segment, ended_past, field_ends, read_over, read_broken, read_taken, read_refused, read_ended}
 use Rattle.look.proofs.segment.pass.Goals as goal
 use Rattle.look.proofs.segment.pass.Goals.{then-is_element+else-not-is_taken, else-is_element+else-breaks_note, then-loop-k-test+then-is_segment, else-loop-k-test}
 
@@ -37,22 +32,22 @@ pub loop-k-preserved : goal.loop-k-preserved
 loop-k-preserved c =
     let other = sym c.is_segment.ensures ∙ c.if-is_segment.false in
     elim c.if-is_element.branch [
-      then-is_element+else-not-is_taken w ↦ rw w.end-is (read_taken c.loop-k.invariant w.start_after-start.ensures w.find_invalid-end.ensures c.loop-k-test.true other (sym c.is_element.ensures ∙ w.if-is_element.true) w.is_taken.ensures w.if-not-is_taken.false (w.marks-is ∙ w.with-marks.ensures))
-    | else-is_element+else-breaks_note w ↦ rw (w.end-is, w.marks-is) (read_over c.loop-k.invariant c.loop-k-test.true other (sym c.is_element.ensures ∙ w.if-is_element.false) w.breaks_note.ensures w.if-breaks_note.false)
+      | then-is_element+else-not-is_taken w ↦ rw w.end-is (read_taken c.loop-k.invariant w.start_after-start.ensures w.find_invalid-end.ensures c.loop-k-test.true other (sym c.is_element.ensures ∙ w.if-is_element.true) w.is_taken.ensures w.if-not-is_taken.false (w.marks-is ∙ w.with-marks.ensures))
+      | else-is_element+else-breaks_note w ↦ rw (w.end-is, w.marks-is) (read_over c.loop-k.invariant c.loop-k-test.true other (sym c.is_element.ensures ∙ w.if-is_element.false) w.breaks_note.ensures w.if-breaks_note.false)
     ]
 
 pub returns-then-not-is_over : goal.returns-then-not-is_over
 returns-then-not-is_over c =
     let ended : Ended c.args.guide.now c.loop-k.k = elim c.loop-k-test.branch [
-      else-loop-k-test w ↦ ended_past _ _ w.loop-k-test.false
-    | then-loop-k-test+then-is_segment w ↦ ended_segment _ _ (sym w.is_segment.ensures ∙ w.if-is_segment.true)
+      | else-loop-k-test w ↦ ended_past _ _ w.loop-k-test.false
+      | then-loop-k-test+then-is_segment w ↦ ended_segment _ _ (sym w.is_segment.ensures ∙ w.if-is_segment.true)
     ] in
     sym (read_ended c.loop-k.invariant ended c.is_over.ensures ∙ rw c.if-not-is_over.true)
 
 pub returns : goal.returns
 returns c =
     let ended : Ended c.args.guide.now c.loop-k.k = elim c.loop-k-test.branch [
-      else-loop-k-test w ↦ ended_past _ _ w.loop-k-test.false
-    | then-loop-k-test+then-is_segment w ↦ ended_segment _ _ (sym w.is_segment.ensures ∙ w.if-is_segment.true)
+      | else-loop-k-test w ↦ ended_past _ _ w.loop-k-test.false
+      | then-loop-k-test+then-is_segment w ↦ ended_segment _ _ (sym w.is_segment.ensures ∙ w.if-is_segment.true)
     ] in
     sym (read_ended c.loop-k.invariant ended c.is_over.ensures ∙ rw c.if-not-is_over.false)

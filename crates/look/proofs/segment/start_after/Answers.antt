@@ -1,7 +1,5 @@
 -- `look::segment::start_after` meets its contract.
-use mathlib.Core.Logic.{⊎_elim}
 use borrow.Author.Tests.{lt-ltb, le-ltb, ne_eqb}
-use borrow.Author.Rules.{rules}
 use Rattle.look.specs.Passing.{start_after}
 use Rattle.look.proofs.segment.start_after.Goals as goal
 use Rattle.look.proofs.segment.start_after.Goals.{else-end-rest-via-then-end-rest+else-rest-end, else-end-rest-via-else-end-rest}
@@ -13,6 +11,6 @@ returns-then-rest-end c = rw (lt-ltb _ _ c.if-end-rest.true, c.if-rest-end.true-
 pub returns : goal.returns
 unfolding start_after
 returns c = elim c.else-end-rest.branch [
-      else-end-rest-via-then-end-rest+else-rest-end w ↦ rw (lt-ltb _ _ w.if-end-rest.true, ne_eqb _ _ w.if-rest-end.false)
-    | else-end-rest-via-else-end-rest w ↦ rw (le-ltb _ _ w.if-end-rest.false)
-    ]
+  | else-end-rest-via-then-end-rest+else-rest-end w ↦ rw (lt-ltb _ _ w.if-end-rest.true, ne_eqb _ _ w.if-rest-end.false)
+  | else-end-rest-via-else-end-rest w ↦ rw (le-ltb _ _ w.if-end-rest.false)
+]
