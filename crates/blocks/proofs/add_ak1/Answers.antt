@@ -1,5 +1,4 @@
 -- `blocks::add_ak1` meets its contract: a segment's row of pieces.
-use borrow.Author.Rules.{rules}
 use Rattle.blocks.proofs.add_ak1.Goals as goal
 
 pub returns : goal.returns

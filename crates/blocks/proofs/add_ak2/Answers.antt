@@ -1,5 +1,4 @@
 -- `blocks::add_ak2` meets its contract: a segment's row of pieces.
-use borrow.Author.Rules.{rules}
 use Rattle.blocks.proofs.add_ak2.Goals as goal
 
 pub returns : goal.returns

@@ -1,6 +1,4 @@
 -- `blocks::add_ak9` meets its contract: a segment's row of pieces.
-use borrow.Author.Rules.{rules}
-use Rattle.writing.proofs.Laws.{kept}
 use Rattle.writing.proofs.Segments.{begin, more, end}
 use Rattle.blocks.proofs.add_ak9.Goals as goal
 

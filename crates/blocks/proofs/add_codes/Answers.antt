@@ -1,7 +1,5 @@
 -- `blocks::add_codes` meets its contract: the codes are those of the array up to their count.
 use native.Mathlib.Nat.{sub-zero}
-use borrow.Author.Rules.{rules}
-use Rattle.writing.proofs.Laws.{kept}
 use Rattle.blocks.proofs.add_codes.Goals as goal
 
 pub returns : goal.returns

@@ -1,7 +1,5 @@
 -- `blocks::add_st` meets its contract: a segment's row of pieces.
-use borrow.Author.Rules.{rules}
 use Rattle.rules.specs.Response.{st_out}
-use Rattle.writing.proofs.Laws.{kept}
 use Rattle.writing.proofs.Segments.{begin, more, end}
 use Rattle.blocks.proofs.add_st.Goals as goal
 

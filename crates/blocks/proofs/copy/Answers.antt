@@ -1,9 +1,7 @@
 -- `blocks::copy` meets its contract: so far, the first i bytes stand over the buffer's start.
-use mathlib.Core.Path.{◌≡◌, refl, sym}
-use Prim.Native.Nat.{◌-◌}
+use mathlib.Core.Path.{refl, sym}
 use native.Mathlib.Omega.{arith}
-use lib.ListN.{length, take, length-set}
-use Rattle.writing.specs.Over.{over}
+use lib.ListN.{length-set}
 use Rattle.writing.proofs.Over.{over_none, over_turn, over_whole}
 use Rattle.blocks.proofs.copy.Goals as goal
 

@@ -1,10 +1,8 @@
 -- `blocks::copy` meets its contract: so far, the first i bytes stand over the buffer's start.
-use mathlib.Core.Path.{◌≡◌, refl, sym}
+use mathlib.Core.Path.{◌≡◌}
 use Prim.Native.Nat.{◌-◌}
-use native.Mathlib.Omega.{arith}
-use lib.ListN.{length, take, length-set}
+use lib.ListN.{length, take}
 use Rattle.writing.specs.Over.{over}
-use Rattle.writing.proofs.Over.{over_none, over_turn, over_whole}
 use Rattle.blocks.proofs.copy.Given as goal
 
 abbrev pub invariant-loop-i : goal.invariant-loop-i

@@ -8,7 +8,6 @@ use Rattle.rules.specs.Base.{Bytes}
 use Rattle.rules.specs.Response.{fields_out}
 use Rattle.writing.specs.Over.{over, sat, From}
 use Rattle.writing.proofs.Laws.{lend, start, seq, whole}
-use borrow.Author.Rules.{rules}
 use Rattle.blocks.proofs.put_acceptance.Goals as goal
 
 -- a text that is copied to the rest after k bytes is a piece

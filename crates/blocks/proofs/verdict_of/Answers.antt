@@ -1,5 +1,4 @@
 -- `blocks::verdict_of` meets its contract.
-use borrow.Author.Rules.{rules}
 use Rattle.blocks.proofs.verdict_of.Goals as goal
 
 pub returns-then-is_empty : goal.returns-then-is_empty
