@@ -1,7 +1,5 @@
 -- `response_envelope::add_ge` meets its contract: a segment's row of pieces.
-use borrow.Author.Rules.{rules}
 use Rattle.rules.specs.Response.{ge_out}
-use Rattle.writing.proofs.Laws.{kept}
 use Rattle.writing.proofs.Segments.{begin, more, end}
 use Rattle.response_envelope.proofs.add_ge.Goals as goal
 

@@ -1,7 +1,5 @@
 -- `response_envelope::add_gs` meets its contract: a segment's row of pieces.
-use borrow.Author.Rules.{rules}
 use Rattle.rules.specs.Response.{gs_out}
-use Rattle.writing.proofs.Laws.{kept}
 use Rattle.writing.proofs.Segments.{begin, more, end}
 use Rattle.response_envelope.proofs.add_gs.Goals as goal
 

@@ -1,6 +1,4 @@
 -- `response_envelope::add_gs_parties` meets its contract: a row of elements.
-use borrow.Author.Rules.{rules}
-use Rattle.writing.proofs.Laws.{kept}
 use Rattle.writing.proofs.Segments.{also}
 use Rattle.response_envelope.proofs.add_gs_parties.Goals as goal
 

@@ -1,6 +1,4 @@
 -- `response_envelope::add_isa_stamp` meets its contract: a row of elements.
-use borrow.Author.Rules.{rules}
-use Rattle.writing.proofs.Laws.{kept}
 use Rattle.writing.proofs.Segments.{also}
 use Rattle.response_envelope.proofs.add_isa_stamp.Goals as goal
 
