@@ -1,5 +1,4 @@
 -- `notes::absent` meets its contract.
-use borrow.Author.Rules.{rules}
 use Rattle.notes.proofs.absent.Goals as goal
 
 pub returns : goal.returns

@@ -1,6 +1,4 @@
 -- `notes::add_ak3` meets its contract: a segment's row of pieces.
-use borrow.Author.Rules.{rules}
-use Rattle.writing.proofs.Laws.{kept}
 use Rattle.notes.proofs.Laws.{codes_two}
 use Rattle.writing.proofs.Segments.{begin, more, end}
 use Rattle.notes.proofs.add_ak3.Goals as goal

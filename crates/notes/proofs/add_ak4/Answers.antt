@@ -1,7 +1,5 @@
 -- `notes::add_ak4` meets its contract: a segment's row of pieces.
-use borrow.Author.Rules.{rules}
 use Rattle.rules.specs.Response.{ak4}
-use Rattle.writing.proofs.Laws.{kept}
 use Rattle.writing.proofs.Segments.{begin, more, end}
 use Rattle.notes.proofs.add_ak4.Goals as goal
 

@@ -3,7 +3,6 @@ use Rattle.rules.specs.Base.{every}
 use Rattle.rules.specs.Response.{fields_out}
 use Rattle.writing.proofs.Laws.{none}
 use native.Mathlib.Omega.{arith}
-use borrow.Author.Rules.{rules}
 use Rattle.notes.proofs.add_code.Goals as goal
 
 pub returns-then-applies : goal.returns-then-applies

@@ -3,7 +3,6 @@ use Rattle.writing.proofs.Laws.{kept}
 use mathlib.Core.Path.{◌∙◌, sym}
 use Rattle.notes.proofs.Laws.{findings_two}
 use Rattle.notes.proofs.Sofar.{adds_more, adds_same}
-use borrow.Author.Rules.{rules}
 use Rattle.notes.proofs.add_codes.Goals as goal
 
 pub shape_of-out : goal.shape_of-out

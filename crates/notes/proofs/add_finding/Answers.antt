@@ -3,7 +3,6 @@ use borrow.Author.Tests.{eq-eqb, ne_eqb}
 use Rattle.writing.proofs.Laws.{kept}
 use Rattle.notes.proofs.Sofar.{adds_none, adds_one}
 use native.Mathlib.Omega.{arith}
-use borrow.Author.Rules.{rules}
 use Rattle.notes.proofs.add_finding.Goals as goal
 
 pub returns-then-f-eq0 : goal.returns-then-f-eq0

@@ -1,10 +1,6 @@
 -- `notes::add_findings` meets its contract.
-use mathlib.Core.List.{map}
-use Rattle.rules.specs.Response.{ak4}
-use Rattle.elements.specs.Checks.{findings_from}
-use Rattle.notes.proofs.Laws.{weight, weight_less, found_more}
-use Rattle.notes.proofs.Sofar.{Sofar, begin, onward, ends}
-use borrow.Author.Rules.{rules}
+use Rattle.notes.proofs.Laws.{weight_less, found_more}
+use Rattle.notes.proofs.Sofar.{begin, onward, ends}
 use native.Mathlib.Omega.{arith}
 use Rattle.notes.proofs.add_findings.Goals as goal
 

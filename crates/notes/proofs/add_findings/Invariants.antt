@@ -2,10 +2,8 @@
 use mathlib.Core.List.{map}
 use Rattle.rules.specs.Response.{ak4}
 use Rattle.elements.specs.Checks.{findings_from}
-use Rattle.notes.proofs.Laws.{weight, weight_less, found_more}
-use Rattle.notes.proofs.Sofar.{Sofar, begin, onward, ends}
-use borrow.Author.Rules.{rules}
-use native.Mathlib.Omega.{arith}
+use Rattle.notes.proofs.Laws.{weight}
+use Rattle.notes.proofs.Sofar.{Sofar}
 use Rattle.notes.proofs.add_findings.Given as goal
 
 abbrev pub invariant-loop-next : goal.invariant-loop-next

@@ -2,7 +2,6 @@
 use mathlib.Core.Path.{sym}
 use lib.Seq.{length-take-le}
 use Rattle.notes.proofs.Laws.{three_of, id_end, id_is}
-use borrow.Author.Rules.{rules}
 use Rattle.notes.proofs.add_id.Goals as goal
 
 pub slice_bounds-bytes-end : goal.slice_bounds-bytes-end

@@ -1,7 +1,6 @@
 -- `notes::add_line` meets its contract.
 use Rattle.writing.proofs.Laws.{kept}
 use Rattle.notes.proofs.Sofar.{adds_one}
-use borrow.Author.Rules.{rules}
 use Rattle.notes.proofs.add_line.Goals as goal
 
 pub shape_of-out : goal.shape_of-out

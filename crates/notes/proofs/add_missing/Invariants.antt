@@ -1,15 +1,10 @@
 -- `notes::add_missing` meets its contract.
-use mathlib.Core.Path.{sym, ◌∙◌}
 use mathlib.Core.List.{map}
 use lib.ListN.{length}
 use lib.Seq.{slice}
 use Rattle.findings.specs.Events.{written}
 use Rattle.findings.specs.Remaining.{missing_in, passed_events}
-use Rattle.findings.proofs.Search.{missing_in_lem}
-use Rattle.notes.proofs.Laws.{missing_more, missing_none, missing_fewer}
-use Rattle.notes.proofs.Sofar.{Sofar, begin, onward, ends}
-use borrow.Author.Rules.{rules}
-use native.Mathlib.Omega.{arith}
+use Rattle.notes.proofs.Sofar.{Sofar}
 use Rattle.notes.proofs.add_missing.Given as goal
 
 abbrev pub invariant-loop-row : goal.invariant-loop-row

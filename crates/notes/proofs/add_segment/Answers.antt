@@ -6,7 +6,6 @@ use Rattle.writing.proofs.Laws.{kept}
 use Rattle.notes.proofs.Laws.{found_all, found_any, taken_written}
 use Rattle.notes.proofs.Sofar.{adds_more, adds_same}
 use native.Mathlib.Omega.{arith}
-use borrow.Author.Rules.{rules}
 use Rattle.notes.proofs.add_segment.Goals as goal
 
 pub shape_of-out : goal.shape_of-out

@@ -7,7 +7,6 @@ use Rattle.writing.proofs.Laws.{kept}
 use Rattle.notes.proofs.Laws.{echoed_id_law, lined_none, lined_some}
 use Rattle.notes.proofs.Sofar.{adds_none}
 use native.Mathlib.Omega.{arith}
-use borrow.Author.Rules.{rules}
 use Rattle.notes.proofs.add_segment_line.Goals as goal
 
 pub returns-then-taken-faulty : goal.returns-then-taken-faulty

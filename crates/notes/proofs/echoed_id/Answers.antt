@@ -1,6 +1,5 @@
 -- `notes::echoed_id` meets its contract.
 use mathlib.Core.Path.{sym, ◌∙◌}
-use borrow.Author.Rules.{rules}
 use Rattle.notes.proofs.echoed_id.Goals as goal
 
 pub returns-then-is_id : goal.returns-then-is_id

@@ -1,7 +1,6 @@
 -- `notes::found_in` meets its contract.
 use mathlib.Core.Path.{sym, ◌∙◌}
 use Rattle.notes.specs.Lines.{found_by}
-use borrow.Author.Rules.{rules}
 use Rattle.notes.proofs.found_in.Goals as goal
 
 pub returns-then-is_checked : goal.returns-then-is_checked

@@ -1,6 +1,5 @@
 -- `notes::is_id` meets its contract.
 use borrow.Author.Tests.{le-leb, lt-leb}
-use borrow.Author.Rules.{rules}
 use Rattle.notes.proofs.is_id.Goals as goal
 
 pub returns-then-s-lt2 : goal.returns-then-s-lt2

@@ -1,5 +1,4 @@
 -- `notes::one_more` meets its contract.
-use borrow.Author.Rules.{rules}
 use Rattle.notes.proofs.one_more.Goals as goal
 
 pub returns : goal.returns

@@ -1,14 +1,11 @@
 -- `notes::put_notes` meets its contract.
 use mathlib.Core.Path.{refl, sym, ap, ◌∙◌}
 use mathlib.Core.List.{map, map-append, append-nil}
-use lib.ListN.{length}
 use Rattle.findings.specs.Events.{written}
-use Rattle.findings.specs.Remaining.{events, remaining, taken_events}
-use Rattle.findings.specs.Steps as steps
+use Rattle.findings.specs.Remaining.{taken_events}
 use Rattle.findings.proofs.Told.{step_segment, step_fewer, step_trailer, step_done}
 use Rattle.writing.proofs.Laws.{kept}
-use Rattle.notes.proofs.Sofar.{Sofar, begin, onward, ends, tells}
-use borrow.Author.Rules.{rules}
+use Rattle.notes.proofs.Sofar.{begin, onward, ends, tells}
 use native.Mathlib.Omega.{arith}
 use Rattle.notes.proofs.put_notes.Goals as goal
 

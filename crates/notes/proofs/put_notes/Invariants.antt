@@ -1,15 +1,10 @@
 -- `notes::put_notes` meets its contract.
-use mathlib.Core.Path.{refl, sym, ap, ◌∙◌}
-use mathlib.Core.List.{map, map-append, append-nil}
+use mathlib.Core.List.{map}
 use lib.ListN.{length}
 use Rattle.findings.specs.Events.{written}
-use Rattle.findings.specs.Remaining.{events, remaining, taken_events}
+use Rattle.findings.specs.Remaining.{events, remaining}
 use Rattle.findings.specs.Steps as steps
-use Rattle.findings.proofs.Told.{step_segment, step_fewer, step_trailer, step_done}
-use Rattle.writing.proofs.Laws.{kept}
-use Rattle.notes.proofs.Sofar.{Sofar, begin, onward, ends, tells}
-use borrow.Author.Rules.{rules}
-use native.Mathlib.Omega.{arith}
+use Rattle.notes.proofs.Sofar.{Sofar}
 use Rattle.notes.proofs.put_notes.Given as goal
 
 abbrev pub invariant-loop-taken : goal.invariant-loop-taken
