@@ -3,7 +3,6 @@ use mathlib.Core.Path.{sym, ◌∙◌}
 use Rattle.rules.proofs.Facts.{refusal_allowed}
 use Rattle.refusals.proofs.Laws.{head_decides, envelope_decides, groups_decide}
 use Rattle.acknowledgment.proofs.Answering.{answering}
-use borrow.Author.Rules.{rules}
 use Rattle.acknowledgment.proofs.acknowledge.Goals as goal
 
 pub answer_groups-requires : goal.answer_groups-requires

@@ -1,8 +1,6 @@
 -- `acknowledgment::response::add_closing` meets its contract: two segments.
-use Rattle.writing.proofs.Laws.{kept}
 use Rattle.acknowledgment.specs.Writers.{closing}
 use Rattle.acknowledgment.proofs.Transactions.{two}
-use borrow.Author.Rules.{rules}
 use Rattle.acknowledgment.proofs.response.add_closing.Goals as goal
 
 pub returns : goal.returns

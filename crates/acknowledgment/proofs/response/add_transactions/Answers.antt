@@ -1,7 +1,6 @@
 -- `acknowledgment::response::add_transactions` meets its contract: the 997s of the groups that are left are still owed.
-use Prim.Native.Nat.{◌+◌, ◌-◌}
 use native.Mathlib.Omega.{arith}
-use Rattle.acknowledgment.proofs.Passes.{Writing, writing_start, writing_next, writable, writing_turn, writing_end}
+use Rattle.acknowledgment.proofs.Passes.{writing_start, writing_next, writable, writing_turn, writing_end}
 use Rattle.acknowledgment.proofs.response.add_transactions.Goals as goal
 
 pub loop-progress-init : goal.loop-progress-init

@@ -1,7 +1,6 @@
 -- `acknowledgment::response::answer_long` meets its contract: there is room for the entries.
 use native.Mathlib.Omega.{arith}
 use Rattle.acknowledgment.proofs.Answering.{roomy}
-use borrow.Author.Rules.{rules}
 use Rattle.acknowledgment.proofs.response.answer_long.Goals as goal
 
 pub answer_over-requires : goal.answer_over-requires

@@ -1,8 +1,6 @@
 -- `acknowledgment::response::put_opening` meets its contract: two segments.
-use Rattle.writing.proofs.Laws.{kept}
 use Rattle.acknowledgment.specs.Writers.{opening}
 use Rattle.acknowledgment.proofs.Transactions.{two}
-use borrow.Author.Rules.{rules}
 use Rattle.acknowledgment.proofs.response.put_opening.Goals as goal
 
 pub returns : goal.returns

@@ -1,9 +1,7 @@
 -- `acknowledgment::response::survey_groups` meets its contract: what holds of the groups so far.
-use Prim.Native.Nat.{◌-◌}
 use mathlib.Core.Path.{sym, ◌∙◌}
 use native.Mathlib.Omega.{arith}
-use lib.ListN as lists
-use Rattle.acknowledgment.proofs.Passes.{Surveying, at_most, surveying_start, surveying_refused, entries_inside, surveyable, entries_next, surveying_turn, surveying_end}
+use Rattle.acknowledgment.proofs.Passes.{at_most, surveying_start, surveying_refused, entries_inside, surveyable, entries_next, surveying_turn, surveying_end}
 use borrow.Author.Rules.{rules}
 use Rattle.acknowledgment.proofs.response.survey_groups.Goals as goal
 

@@ -4,7 +4,6 @@ use native.Mathlib.Omega.{arith}
 use Rattle.rules.specs.Response.{out, ak3s}
 use Rattle.writing.proofs.Laws.{lend, none, kept}
 use Rattle.acknowledgment.proofs.Blocks.{parts_at, notes_are}
-use borrow.Author.Rules.{rules}
 use Rattle.acknowledgment.proofs.set_block.add_notes.Goals as goal
 
 pub returns-then-set : goal.returns-then-set

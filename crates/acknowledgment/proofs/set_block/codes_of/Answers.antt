@@ -2,7 +2,6 @@
 use native.Mathlib.Omega.{arith}
 use Rattle.acknowledgment.proofs.Blocks.{parts_at, codes_are}
 use mathlib.Core.Path.{refl}
-use borrow.Author.Rules.{rules}
 use Rattle.acknowledgment.proofs.set_block.codes_of.Goals as goal
 
 pub overflow_sub-place : goal.overflow_sub-place

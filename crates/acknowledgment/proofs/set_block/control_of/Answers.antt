@@ -5,7 +5,6 @@ use native.Mathlib.Omega.{arith}
 use lib.ListN.{length, drop, length-drop}
 use Rattle.register.specs.Fields.{field_in}
 use Rattle.acknowledgment.proofs.Headers.{field_begins, field_short, header_inside, header_control}
-use borrow.Author.Rules.{rules}
 use Rattle.acknowledgment.proofs.set_block.control_of.Goals as goal
 
 pub slice_bounds-result-end : goal.slice_bounds-result-end

@@ -4,7 +4,6 @@ use Prim.Native.Nat.{◌+◌}
 use native.Mathlib.Omega.{arith}
 use lib.ListN.{drop, length-drop}
 use Rattle.acknowledgment.proofs.Headers.{field_short, header_inside, header_control, header_fields}
-use borrow.Author.Rules.{rules}
 use Rattle.acknowledgment.proofs.set_block.fields_of.Goals as goal
 
 pub slice_bounds-result-end : goal.slice_bounds-result-end

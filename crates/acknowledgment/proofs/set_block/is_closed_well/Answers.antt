@@ -1,6 +1,5 @@
 -- `acknowledgment::set_block::is_closed_well` meets its contract.
 use mathlib.Core.Path.{◌∙◌}
-use borrow.Author.Rules.{rules}
 use Rattle.acknowledgment.proofs.set_block.is_closed_well.Goals as goal
 
 pub returns : goal.returns

@@ -1,5 +1,4 @@
 -- `acknowledgment::set_block::measure_accepted` meets its contract.
-use borrow.Author.Rules.{rules}
 use Rattle.acknowledgment.proofs.set_block.measure_accepted.Goals as goal
 
 pub returns : goal.returns

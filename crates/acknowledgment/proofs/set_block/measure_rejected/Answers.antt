@@ -1,7 +1,6 @@
 -- `acknowledgment::set_block::measure_rejected` meets its contract: the block is measured on an empty part.
 use Rattle.acknowledgment.proofs.Blocks.{received_is, block_received}
 use Rattle.acknowledgment.proofs.Turns.{measures}
-use borrow.Author.Rules.{rules}
 use Rattle.acknowledgment.proofs.set_block.measure_rejected.Goals as goal
 
 pub put_rejected-requires : goal.put_rejected-requires

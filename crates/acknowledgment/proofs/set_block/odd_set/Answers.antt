@@ -1,5 +1,4 @@
 -- `acknowledgment::set_block::odd_set` meets its contract.
-use borrow.Author.Rules.{rules}
 use Rattle.acknowledgment.proofs.set_block.odd_set.Goals as goal
 
 pub returns : goal.returns

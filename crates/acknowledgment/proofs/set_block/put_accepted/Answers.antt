@@ -2,7 +2,6 @@
 use mathlib.Core.Path.{◌∙◌, sym}
 use Rattle.acknowledgment.proofs.Blocks.{acceptance_written}
 use Rattle.acknowledgment.proofs.Looks.{kind_here}
-use borrow.Author.Rules.{rules}
 use Rattle.acknowledgment.proofs.set_block.put_accepted.Goals as goal
 
 pub returns : goal.returns

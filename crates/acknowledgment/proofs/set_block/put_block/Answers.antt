@@ -4,7 +4,6 @@ use Rattle.acknowledgment.specs.Received.{table_by}
 use Rattle.acknowledgment.specs.Surveys.{set_here}
 use Rattle.acknowledgment.proofs.Blocks.{received_is, block_received}
 use Rattle.acknowledgment.proofs.Reports.{mark_block, mark_repeats, mark_untold}
-use borrow.Author.Rules.{rules}
 use Rattle.acknowledgment.proofs.set_block.put_block.Goals as goal
 
 pub put_accepted-requires : goal.put_accepted-requires

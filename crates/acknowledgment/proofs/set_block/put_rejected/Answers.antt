@@ -2,7 +2,6 @@
 use mathlib.Core.Path.{sym, ◌∙◌}
 use Rattle.guides.specs.Choice.{table_at}
 use Rattle.acknowledgment.proofs.Blocks.{there_is, block_of}
-use borrow.Author.Rules.{rules}
 use Rattle.acknowledgment.proofs.set_block.put_rejected.Goals as goal
 
 pub codes_of-codes-requires : goal.codes_of-codes-requires

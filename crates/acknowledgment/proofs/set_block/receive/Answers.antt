@@ -1,5 +1,4 @@
 -- `acknowledgment::set_block::receive` meets its contract.
-use borrow.Author.Rules.{rules}
 use Rattle.acknowledgment.proofs.set_block.receive.Goals as goal
 
 pub returns : goal.returns

@@ -7,7 +7,6 @@ use Rattle.acknowledgment.specs.declared.set_block.SeenSet.{SeenSet}
 use Rattle.acknowledgment.specs.Surveys.{set_here}
 use Rattle.acknowledgment.proofs.Headers.{header_inside, header_kind}
 use Rattle.acknowledgment.proofs.Looks.{kind_here, sees_nowhere, sees_quiet, sees_odd, not_quiet}
-use borrow.Author.Rules.{rules}
 use Rattle.acknowledgment.proofs.set_block.see.Goals as goal
 use Rattle.acknowledgment.proofs.set_block.see.Goals.{After-kind_of}
 

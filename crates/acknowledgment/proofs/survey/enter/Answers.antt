@@ -1,7 +1,6 @@
 -- `acknowledgment::survey::enter` meets its contract: the search finds what is among the sets before, or the slot to enter the set at.
 use native.Mathlib.Omega.{arith}
 use Rattle.acknowledgment.proofs.Surveys.{slot_inside, entered_so}
-use borrow.Author.Rules.{rules}
 use Rattle.acknowledgment.proofs.survey.enter.Goals as goal
 
 pub offset_bounds-links-slot : goal.offset_bounds-links-slot

@@ -1,6 +1,5 @@
 -- `acknowledgment::survey::survey_set` meets its contract.
 use Rattle.acknowledgment.proofs.Looks.{surveyed_accepted, measure_ready, surveyed_rejected}
-use borrow.Author.Rules.{rules}
 use Rattle.acknowledgment.proofs.survey.survey_set.Goals as goal
 
 pub see-seen-requires : goal.see-seen-requires

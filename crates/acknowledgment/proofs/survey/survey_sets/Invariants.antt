@@ -1,18 +1,12 @@
 -- `acknowledgment::survey::survey_sets` meets its contract: what holds of the sets so far.
-use mathlib.Core.Logic.{⊎_elim}
-use mathlib.Core.Path.{◌≡◌, refl, ◌∙◌}
+use mathlib.Core.Path.{◌≡◌}
 use mathlib.Core.List.{[]}
-use Prim.Native.Nat.{◌+◌, ◌-◌, ◌<◌}
-use native.Mathlib.Omega.{arith}
-use borrow.Author.Tests.{ne_eqb}
+use Prim.Native.Nat.{◌+◌, ◌-◌}
 use lib.ListN as lists
-use Rattle.sets.specs.Places.{set_at}
-use Rattle.sets.proofs.Sets.{SetIs}
 use Rattle.acknowledgment.specs.Received.{table_by}
 use Rattle.acknowledgment.specs.Surveys.{reports}
-use Rattle.acknowledgment.proofs.Surveys.{Seeing, seeing_start, seeing_set, seeing_headed, seeing_room, seeing_enter, seeing_marked, seeing_used, seeing_measured, seeing_turn, seeing_end}
-use Rattle.acknowledgment.proofs.Turns.{Sofar, sofar_start}
-use borrow.Author.Rules.{rules}
+use Rattle.acknowledgment.proofs.Surveys.{Seeing}
+use Rattle.acknowledgment.proofs.Turns.{Sofar}
 use Rattle.acknowledgment.proofs.survey.survey_sets.Given as goal
 
 abbrev pub invariant-loop-at : goal.invariant-loop-at

@@ -1,8 +1,6 @@
 -- `acknowledgment::transaction::add_beginning` meets its contract: two segments.
-use Rattle.writing.proofs.Laws.{kept}
 use Rattle.acknowledgment.specs.Writers.{beginning}
 use Rattle.acknowledgment.proofs.Transactions.{two}
-use borrow.Author.Rules.{rules}
 use Rattle.acknowledgment.proofs.transaction.add_beginning.Goals as goal
 
 pub returns : goal.returns

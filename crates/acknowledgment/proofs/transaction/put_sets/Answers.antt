@@ -1,11 +1,9 @@
 -- `acknowledgment::transaction::put_sets` meets its contract: the blocks of the sets that are left are still owed.
-use Prim.Native.Nat.{◌-◌, ◌≤◌}
 use native.Mathlib.Omega.{arith}
 use lib.ListN.{take, get_or}
 use Rattle.acknowledgment.specs.Received.{table_by}
-use Rattle.acknowledgment.specs.Surveys.{reports, Seen}
-use Rattle.acknowledgment.proofs.Turns.{Sofar, sofar_start, sofar_turn, sofar_end, seen_set, seen_next}
-use borrow.Author.Rules.{rules}
+use Rattle.acknowledgment.specs.Surveys.{Seen}
+use Rattle.acknowledgment.proofs.Turns.{sofar_start, sofar_turn, sofar_end, seen_set, seen_next}
 use Rattle.acknowledgment.proofs.transaction.put_sets.Goals as goal
 use Rattle.acknowledgment.proofs.transaction.put_sets.Goals.{In-loop-k}
 

@@ -1,13 +1,8 @@
 -- `acknowledgment::transaction::tally_of` meets its contract: what is counted of the marks that are left decides.
-use Prim.Native.Nat.{◌-◌, ◌≤◌}
-use mathlib.Core.Logic.{⊎_elim}
-use mathlib.Core.Path.{◌≡◌, refl, sym, ◌∙◌}
+use mathlib.Core.Path.{refl, sym, ◌∙◌}
 use native.Mathlib.Omega.{arith}
 use borrow.Author.Tests.{eq-eqb, ne_eqb}
-use lib.ListN.{length, drop}
-use Rattle.acknowledgment.specs.Surveys.{tally_from, tally_of}
 use Rattle.acknowledgment.proofs.Recorded.{tally_mark, tally_stops, tally_none}
-use borrow.Author.Rules.{rules}
 use Rattle.acknowledgment.proofs.transaction.tally_of.Goals as goal
 use Rattle.acknowledgment.proofs.transaction.tally_of.Goals.{then-mark-eq-ACCEPTED, else-mark-eq-ACCEPTED}
 

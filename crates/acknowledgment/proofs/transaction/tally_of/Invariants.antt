@@ -1,13 +1,8 @@
 -- `acknowledgment::transaction::tally_of` meets its contract: what is counted of the marks that are left decides.
 use Prim.Native.Nat.{◌-◌, ◌≤◌}
-use mathlib.Core.Logic.{⊎_elim}
-use mathlib.Core.Path.{◌≡◌, refl, sym, ◌∙◌}
-use native.Mathlib.Omega.{arith}
-use borrow.Author.Tests.{eq-eqb, ne_eqb}
+use mathlib.Core.Path.{◌≡◌}
 use lib.ListN.{length, drop}
 use Rattle.acknowledgment.specs.Surveys.{tally_from, tally_of}
-use Rattle.acknowledgment.proofs.Recorded.{tally_mark, tally_stops, tally_none}
-use borrow.Author.Rules.{rules}
 use Rattle.acknowledgment.proofs.transaction.tally_of.Given as goal
 
 abbrev pub invariant-loop-received : goal.invariant-loop-received

@@ -1,6 +1,5 @@
 -- `acknowledgment::transaction::transaction_length` meets its contract: the lengths of its parts.
 use Rattle.acknowledgment.proofs.Transactions.{length_made}
-use borrow.Author.Rules.{rules}
 use Rattle.acknowledgment.proofs.transaction.transaction_length.Goals as goal
 
 pub returns : goal.returns
