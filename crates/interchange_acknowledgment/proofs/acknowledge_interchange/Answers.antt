@@ -1,8 +1,6 @@
 -- `interchange_acknowledgment::acknowledge_interchange` meets its contract, by what ISA says in each case.
 use mathlib.Core.Path.{sym, ◌∙◌}
-use borrow.Author.Tests.{not-true, not-false}
 use Rattle.interchange_acknowledgment.proofs.Laws.{head_refuses, unasked, asked}
-use borrow.Author.Rules.{rules}
 use Rattle.interchange_acknowledgment.proofs.acknowledge_interchange.Goals as goal
 
 pub returns-then-not-asks_for_ta1 : goal.returns-then-not-asks_for_ta1

@@ -1,7 +1,5 @@
 -- `interchange_acknowledgment::add_ta1` meets its contract: a segment's row of pieces.
-use borrow.Author.Rules.{rules}
 use Rattle.rules.specs.InterchangeAcknowledgment.{ta1}
-use Rattle.writing.proofs.Laws.{kept}
 use Rattle.writing.proofs.Segments.{begin, more, end}
 use Rattle.interchange_acknowledgment.proofs.add_ta1.Goals as goal
 

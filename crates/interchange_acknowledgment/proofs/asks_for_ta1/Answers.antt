@@ -1,6 +1,5 @@
 -- `interchange_acknowledgment::asks_for_ta1` meets its contract.
 use mathlib.Core.Path.{◌∙◌}
-use borrow.Author.Rules.{rules}
 use Rattle.interchange_acknowledgment.proofs.asks_for_ta1.Goals as goal
 
 pub returns : goal.returns

@@ -1,6 +1,5 @@
 -- `interchange_acknowledgment::respond` meets its contract: the length is known, and the three segments are written one after the other.
 use Rattle.interchange_acknowledgment.proofs.Laws.{too_long, written}
-use borrow.Author.Rules.{rules}
 use Rattle.interchange_acknowledgment.proofs.respond.Goals as goal
 
 pub returns-then-out-lt-LENGTH : goal.returns-then-out-lt-LENGTH
