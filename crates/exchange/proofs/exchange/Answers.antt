@@ -1,7 +1,6 @@
 -- `exchange::exchange` meets its contract.
 use mathlib.Core.Path.{sym, ◌∙◌}
 use native.Mathlib.Omega.{arith}
-use borrow.Author.Rules.{rules}
 use Rattle.exchange.proofs.FirstLine.{starts_within, rest}
 use Rattle.exchange.proofs.Laws.{exchanged}
 use Rattle.exchange.proofs.exchange.Goals as goal

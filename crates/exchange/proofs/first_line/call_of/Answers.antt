@@ -1,7 +1,6 @@
 -- `exchange::first_line::call_of` meets its contract.
 use mathlib.Core.Path.{sym, ◌∙◌}
 use native.Mathlib.Omega.{arith}
-use borrow.Author.Rules.{rules}
 use lib.Seq.{length-take-le}
 use Rattle.exchange.proofs.FirstLine.{no_call, call_at}
 use Rattle.exchange.proofs.first_line.call_of.Goals as goal

@@ -2,8 +2,6 @@
 use mathlib.Core.Path.{◌≡◌, sym, ◌∙◌}
 use mathlib.Core.Bool.{true}
 use native.Mathlib.Omega.{arith}
-use borrow.Author.Tests.{not-true, not-false}
-use borrow.Author.Rules.{rules}
 use lib.Seq.{length-take-le}
 use Rattle.rules.specs.Program.{is_call}
 use Rattle.exchange.proofs.FirstLine.{CallLine, call_line, nine_digits, numbers_on}

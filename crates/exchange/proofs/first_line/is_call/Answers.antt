@@ -2,8 +2,7 @@
 use mathlib.Core.Path.{refl, sym, ◌∙◌}
 use mathlib.Core.Bool.{true, false}
 use native.Mathlib.Omega.{arith}
-use borrow.Author.Tests.{eq-eqb, ne_eqb, not-true, not-false}
-use borrow.Author.Rules.{rules}
+use borrow.Author.Tests.{eq-eqb, ne_eqb}
 use lib.Seq.{length-take-le}
 use Rattle.exchange.proofs.FirstLine.{too_short, by_tests}
 use Rattle.exchange.proofs.first_line.is_call.Goals as goal

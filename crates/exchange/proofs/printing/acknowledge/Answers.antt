@@ -1,5 +1,4 @@
 -- `exchange::printing::acknowledge` meets its contract: the entry that is called is that of the acknowledgment asked for.
-use borrow.Author.Rules.{rules}
 use Rattle.exchange.specs.Replies.{replies_of}
 use Rattle.exchange.proofs.printing.acknowledge.Goals as goal
 

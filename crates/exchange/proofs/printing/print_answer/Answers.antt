@@ -1,7 +1,6 @@
 -- `exchange::printing::print_answer` meets its contract.
 use mathlib.Core.Path.{refl}
 use native.Mathlib.Omega.{arith}
-use borrow.Author.Rules.{rules}
 use Rattle.exchange.proofs.Laws.{written, refused}
 use Rattle.exchange.proofs.printing.print_answer.Goals as goal
 

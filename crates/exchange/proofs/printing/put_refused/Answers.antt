@@ -1,7 +1,6 @@
 -- `exchange::printing::put_refused` meets its contract: a row of pieces.
-use borrow.Author.Rules.{rules}
 use Rattle.rules.specs.Program.{refused_text}
-use Rattle.writing.proofs.Laws.{seq, whole, stays}
+use Rattle.writing.proofs.Laws.{seq, whole}
 use Rattle.exchange.proofs.printing.put_refused.Goals as goal
 
 pub returns : goal.returns
