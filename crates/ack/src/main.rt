@@ -2,6 +2,12 @@
 // The program `ack`: it answers an interchange with the 997.
 use exchange::Acknowledgment;
 
-fn main() {
-    program::run(Acknowledgment::Functional, b"ack");
+fn main(rt: HostRuntime) {
+    program::run(
+        rt.stdin(),
+        rt.stdout(),
+        rt.stderr(),
+        Acknowledgment::Functional,
+        b"ack",
+    );
 }

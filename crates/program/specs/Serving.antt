@@ -1,4 +1,4 @@
--- What a program has done, whatever C's `read` and `write` did.
+-- What a program has done, whatever its reads and writes did.
 use Rattle.std.specs.Prelude.{ℕ, ◌≡◌, take}
 use Rattle.rules.specs.Base.{Bytes}
 use Rattle.rules.specs.Program.{ack_prints, ta1_prints}

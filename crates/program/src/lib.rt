@@ -1,13 +1,13 @@
 #![tactic(auto)]
 // What each program does: it reads standard input, answers it, and writes the answer to standard output.
 ghost use Rattle.std.specs.Prelude.{◌≤◌, ◌≡◌, length};
-ghost use Rattle.io.specs.Counts.{IsPrefixLen};
 ghost use Rattle.writing.specs.Over.{over};
 ghost use Rattle.exchange.specs.Deciding.{deciding};
+ghost use Rattle.program.specs.Counts.{IsPrefixLen};
 ghost use Rattle.program.specs.Serving.{room, prints, Serves};
 
 use exchange::Acknowledgment;
-use libc::{STDERR_FILENO, STDIN_FILENO, STDOUT_FILENO};
+use std::io::{Read, Stderr, Stdin, Stdout};
 
 // As much of an input as decides its answer: the longest first line, its LF, and an interchange that is too long by one byte.
 const MOST: usize = 23 + 1 + 65537;
@@ -23,20 +23,18 @@ struct Reading {
 }
 
 // Reads until the input ends or the buffer is full. The rest of a longer input is not read: it makes no difference.
-fn read_input(input: &mut [u8]) -> Reading
+fn read_input(mut stdin: Stdin, input: &mut [u8]) -> Reading
     requires { deciding ≤ length input.old }
     ensures { IsPrefixLen result.count input.new }
 {
     let mut n = 0;
     while n < input.len() {
-        let got = libc::read(STDIN_FILENO, &mut input[n..]);
-        if got < 0 {
+        let Ok(more) = stdin.read(&mut input[n..]) else {
             return Reading {
                 count: 0,
                 failed: true,
             };
-        }
-        let more = io::count(got, &input[n..]);
+        };
         if more == 0 {
             break;
         }
@@ -49,19 +47,19 @@ fn read_input(input: &mut [u8]) -> Reading
 }
 
 // Prints the answer to an input, and says whether all of it was written. Only what the law says of the input may be lent.
-fn print(asked: Acknowledgment, input: &[u8], answer: &[u8]) -> bool
+fn print(stdout: Stdout, asked: Acknowledgment, input: &[u8], answer: &[u8]) -> bool
     requires { answer.now ≡ prints asked input.now }
 {
-    io::write_all(STDOUT_FILENO, answer)
+    stdout.write_all(answer).is_ok()
 }
 
 // Answers an input and prints that, and says whether all of it was written. The output is the room for a response; the answer is left in it.
-fn write_answer(asked: Acknowledgment, input: &[u8], output: &mut [u8]) -> bool
+fn write_answer(stdout: Stdout, asked: Acknowledgment, input: &[u8], output: &mut [u8]) -> bool
     requires { length output.old ≡ room }
     ensures { output.new ≡ over (prints asked input.now) output.old }
 {
     let length = exchange::exchange(asked, input, output);
-    print(asked, input, &output[..length])
+    print(stdout, asked, input, &output[..length])
 }
 
 // What came of an exchange: the answer to so many bytes was printed, or not all of it; or the input could not be read.
@@ -73,35 +71,41 @@ enum Served {
 }
 
 // Reads an input and prints the answer to it. An input that can't be read gets none.
-fn serve(asked: Acknowledgment, input: &mut [u8], output: &mut [u8]) -> Served
+fn serve(
+    stdin: Stdin,
+    stdout: Stdout,
+    asked: Acknowledgment,
+    input: &mut [u8],
+    output: &mut [u8],
+) -> Served
     requires deciding_in_bounds { deciding ≤ length input.old }
     requires output_len { length output.old ≡ room }
     ensures { Serves asked result input.new output.old output.new }
 {
-    let reading = read_input(input);
+    let reading = read_input(stdin, input);
     if reading.failed {
         return Served::Unread;
     }
     let n = reading.count;
-    if !write_answer(asked, &input[..n], output) {
+    if !write_answer(stdout, asked, &input[..n], output) {
         return Served::Unprinted(n);
     }
     Served::Printed(n)
 }
 
 // Says on standard error which program failed, and at what.
-fn complain(name: &[u8], what: &[u8]) {
-    io::write_all(STDERR_FILENO, name);
-    io::write_all(STDERR_FILENO, what);
+fn complain(stderr: Stderr, name: &[u8], what: &[u8]) {
+    let _ = stderr.write_all(name);
+    let _ = stderr.write_all(what);
 }
 
 // Runs the program of this name, which answers with the acknowledgment that is asked for.
-pub fn run(asked: Acknowledgment, name: &[u8]) {
+pub fn run(stdin: Stdin, stdout: Stdout, stderr: Stderr, asked: Acknowledgment, name: &[u8]) {
     let mut input: [u8; MOST] = [0; MOST];
     let mut output: [u8; ROOM] = [0; ROOM];
-    match serve(asked, &mut input, &mut output) {
+    match serve(stdin, stdout, asked, &mut input, &mut output) {
         Served::Printed(_) => {}
-        Served::Unprinted(_) => complain(name, b": cannot write standard output\n"),
-        Served::Unread => complain(name, b": cannot read standard input\n"),
+        Served::Unprinted(_) => complain(stderr, name, b": cannot write standard output\n"),
+        Served::Unread => complain(stderr, name, b": cannot read standard input\n"),
     }
 }
