@@ -1,12 +1,13 @@
 -- Months: a test of each of them, and what a leap year changes.
-use mathlib.Core.Path.{◌≡◌, subst}
+use mathlib.Core.Path.{◌≡◌, refl, subst}
 use mathlib.Core.Logic.{⊎_elim}
-use mathlib.Core.Bool.{Bool, true, false, ◌&&◌}
-use Prim.Native.Nat.{ℕ, zero, suc, ◌+◌, ◌≤◌, ◌<◌}
+use mathlib.Core.Bool.{Bool, true, false, ◌&&◌, ◌||◌, beq}
+use Prim.Native.Nat.{ℕ, zero, suc, ◌+◌, ◌≤◌, ◌<◌, ◌%◌}
 use native.Mathlib.Nat.{eq-or-lt_of_le}
 use native.Mathlib.Omega.{arith}
-use lib.Dec.{eqb}
-use Rattle.rules.specs.Base.{first}
+use lib.Dec.{eqb, ltb}
+use mir.Val.{bool_byte}
+use Rattle.rules.specs.Base.{any, first}
 use Rattle.rules.specs.Numbers.{leap, month_length}
 use Rattle.rules.proofs.Logic.{and_left, and_right}
 use Rattle.text.proofs.Loops.{and_false}
@@ -32,3 +33,14 @@ at_month p e month b = passes_at p 1 12 month e b.0 (omega arith)
 pub common : (year month : ℕ) → (eqb month 2 && leap year) ≡ false → month_length 1 month ≡ month_length year month
 unfolding month_length leap first
 common year month e = simp (e, and_false)
+
+-- the long months of the formula, and what is tested of them: the months of the year 1 but February
+abbrev pub long : ℕ → Bool
+long month = beq (eqb (month % 2) 1) (ltb month 8)
+
+unfoldable pub right : ℕ → Bool
+right month = eqb month 2 || eqb (30 + bool_byte (long month)) (month_length 1 month)
+
+pub all_right : passes right 1 12 ≡ true
+unfolding right month_length leap first any
+all_right = refl

@@ -1,16 +1,15 @@
 -- `dates::month_length` meets its contract.
 use mathlib.Core.Path.{◌≡◌, refl, ◌∙◌}
-use mathlib.Core.Bool.{Bool, true, false, ◌||◌, beq}
+use mathlib.Core.Bool.{Bool, true, false}
 use mathlib.Core.List.{[], ◌∷◌}
-use Prim.Native.Nat.{ℕ, ◌+◌, ◌≤◌, ◌%◌}
+use Prim.Native.Nat.{ℕ, ◌+◌, ◌≤◌}
 use native.Mathlib.Omega.{arith}
 use borrow.Author.Tests.{eqb-true, ne_eqb}
-use lib.Dec.{eqb, ltb}
 use mir.Syntax.{w8}
 use mir.Val.{Fits, bool_byte}
 use Rattle.rules.specs.Base.{◌⇒◌, any, first}
 use Rattle.rules.specs.Numbers.{leap, month_length}
-use Rattle.dates.proofs.Months.{passes, at_month, common}
+use Rattle.dates.proofs.Months.{at_month, common, right, all_right}
 use Rattle.dates.proofs.month_length.Goals as goal
 
 -- a length and a day more, or none, fits into a byte
@@ -26,17 +25,6 @@ february year = by_leap (leap year)
     by_leap : (more : Bool) → 28 + bool_byte more ≡ first ((more ⇒ 29) ∷ (true ⇒ 28) ∷ [])
     by_leap true = refl
     by_leap false = refl
-
--- the long months of the formula, and what is tested of them: the months of the year 1 but February
-abbrev long : ℕ → Bool
-long month = beq (eqb (month % 2) 1) (ltb month 8)
-
-right : ℕ → Bool
-right month = eqb month 2 || eqb (30 + bool_byte (long month)) (month_length 1 month)
-
-all_right : passes right 1 12 ≡ true
-unfolding right month_length leap first any
-all_right = refl
 
 pub returns-then-month-eq-FEBRUARY : goal.returns-then-month-eq-FEBRUARY
 returns-then-month-eq-FEBRUARY c = rw (c.if-month-eq-FEBRUARY.true, c.is_leap.ensures) (february _)
