@@ -22,8 +22,16 @@ function parameters(list, parts, n, i, c, depth, word) {
 # Where the lent value of parameter k (from 0 on) stands at the exit.
 function lent(k, path) {
     path = "s"
-    while (k-- > 0) path = path " .1"
-    return "now (" path " .0)"
+    while (k-- > 0) path = path ".1"
+    return path ".0.now"
+}
+
+# A name in small letters: `TableAt` is `table_at`.
+function snake(name, small) {
+    small = substr(name, 1, 1)
+    for (name = substr(name, 2); name != ""; name = substr(name, 2))
+        small = small (name ~ /^[A-Z]/ ? "_" : "") substr(name, 1, 1)
+    return tolower(small)
 }
 
 END {
@@ -49,16 +57,16 @@ END {
         list = substr(rest, 1, i - 2)
         after = substr(rest, i)
         returned = "r"
-        if (after ~ /^ *-> *&/) returned = "now r"
+        if (after ~ /^ *-> *&/) returned = "r.now"
         seen = returned
         split("", parts)
         n = parameters(list, parts)
-        for (k = 1; k <= n; k++) if (parts[k] ~ /: *&('[a-z]+ *)?mut /) seen = "beside " (seen ~ / / ? "(" seen ")" : seen) " (" lent(k - 1) ")"
+        for (k = 1; k <= n; k++) if (parts[k] ~ /: *&('[a-z]+ *)?mut /) seen = "beside " (seen ~ / / ? "(" seen ")" : seen) " " lent(k - 1)
         path = (module == "" ? "" : module ".") (owner == "" ? "" : owner ".") name
-        alias = crate "-" (module == "" ? "" : module "-") (owner == "" ? "" : owner "-") name
-        gsub(/_/, "-", alias)
-        printf "use Rattle·%s.proofs.%s.Reads as %s\n", crate, path, alias
-        printf "%s-once : Determined %s.Pre %s.Post (λ κs r s. %s)\n", alias, alias, alias, seen
+        alias = crate "_" (module == "" ? "" : module "_") (owner == "" ? "" : snake(owner) "_") name
+        gsub(/\./, "_", alias)
+        printf "use Rattle.%s.proofs.%s.Reads as %s\n", crate, path, alias
+        printf "%s_once : Determined %s.Pre %s.Post (λ κs r s. %s)\n", alias, alias, alias, seen
     }
 }
 
