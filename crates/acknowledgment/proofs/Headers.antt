@@ -1,4 +1,5 @@
 -- The header of a set that can be answered: its id has two bytes and ST01 three, so ST01 and ST02 start three and seven bytes on.
+use Rattle.std.specs.Prelude.{if◌then◌else◌}
 use mathlib.Core.Path.{◌≡◌, refl, sym, ap, ◌∙◌}
 use mathlib.Core.Bool.{Bool, true, false}
 use mathlib.Core.List.{[], ◌∷◌, ◌++◌, append-nil}
@@ -8,7 +9,7 @@ use native.Mathlib.Omega.{arith}
 use lib.Dec.{eqb}
 use lib.ListN.{length, get_or, take, drop, length-take, length-drop}
 use lib.Seq.{drop-drop, drop_at, take-take, take-nil, take-append-add}
-use Rattle.rules.specs.Base.{Bytes, if◌then◌else◌}
+use Rattle.rules.specs.Base.{Bytes}
 use Rattle.rules.specs.Cutting.{field, split, pieces}
 use Rattle.rules.specs.Response.{fields_out}
 use Rattle.rules.specs.declared.Delimiters.{Delimiters}

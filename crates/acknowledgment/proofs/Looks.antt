@@ -1,4 +1,5 @@
 -- One look at a set: what it comes to is what is reported of the set.
+use Rattle.std.specs.Prelude.{if◌then◌else◌}
 use mathlib.Core.Path.{◌≡◌, refl, sym, ap, ◌∙◌}
 use mathlib.Core.Bool.{Bool, true, false, ◌&&◌, and-true, and-false, not, false≢true}
 use mathlib.Core.List.{List, [], ◌∷◌}
@@ -6,7 +7,7 @@ use mathlib.Core.Option.{Option, none, some}
 use Prim.Native.Nat.{ℕ, ◌+◌, ◌-◌}
 use native.Mathlib.Omega.{arith}
 use lib.ListN.{length, drop}
-use Rattle.rules.specs.Base.{Bytes, ◌⇒◌, every, null, any, is_none, holds, same, member, if◌then◌else◌}
+use Rattle.rules.specs.Base.{Bytes, ◌⇒◌, every, null, any, is_none, holds, same, member}
 use Rattle.rules.specs.Cutting.{Segment, field, split}
 use Rattle.rules.specs.Numbers.{declares}
 use Rattle.rules.specs.Tables.{Table}

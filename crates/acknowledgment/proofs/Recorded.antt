@@ -1,4 +1,5 @@
 -- The entries of a group: its sets as surveyed, and the one that ends them.
+use Rattle.std.specs.Prelude.{if◌then◌else◌}
 use Prim.Native.Nat.{ℕ, zero, suc, ◌+◌, ◌-◌, ◌≤◌, ◌<◌}
 use mathlib.Core.Path.{◌≡◌, refl, sym, ap, ◌∙◌}
 use mathlib.Core.Bool.{Bool, true, false}
@@ -7,7 +8,7 @@ use native.Mathlib.Omega.{arith}
 use lib.Dec.{eqb}
 use lib.ListN.{length, take, drop, get_or, set, length-set, length-take, length-drop, drop_of_length-le}
 use lib.Seq.{take_all, take-take, take-set-le, get_or-take, get_or-set_same, get_or-set_other}
-use Rattle.rules.specs.Base.{Bytes, if◌then◌else◌}
+use Rattle.rules.specs.Base.{Bytes}
 use Rattle.rules.specs.Sets.{SetReport, accepted}
 use Rattle.rules.specs.Groups.{accepted_in}
 use Rattle.rules.specs.declared.Delimiters.{Delimiters}

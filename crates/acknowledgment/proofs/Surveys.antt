@@ -1,4 +1,5 @@
 -- The look at the sets of a group, set by set.
+use Rattle.std.specs.Prelude.{if◌then◌else◌}
 use mathlib.Core.Path.{◌≡◌, refl, sym, ap, ◌∙◌}
 use mathlib.Core.Bool.{Bool, true, false}
 use mathlib.Core.List.{List, [], ◌∷◌, ◌++◌}
@@ -10,7 +11,7 @@ use borrow.Author.Count.{below_none, below_more}
 use lib.Dec.{eqb}
 use lib.ListN.{length, take, drop, get_or, set, length-set}
 use lib.Seq.{take-suc-set, take-set-le, get_or-set_same, get_or-set_other}
-use Rattle.rules.specs.Base.{Bytes, member, keep, if◌then◌else◌}
+use Rattle.rules.specs.Base.{Bytes, member, keep}
 use Rattle.rules.specs.Cutting.{segments}
 use Rattle.rules.specs.Tables.{Table}
 use Rattle.rules.specs.Sets.{Set, SetReport, sets_of, outside, control_of, accepted}

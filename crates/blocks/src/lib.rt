@@ -1,7 +1,7 @@
 #![tactic(auto)]
 // The segments of the response's transaction set, ST to SE, all but AK3 and AK4: each a row of pieces after n bytes of a lent buffer.
-ghost use Rattle.std.specs.Prelude.{◌≡◌, [], ◌∷◌, ◌++◌, map, ◌≤◌, length};
-ghost use Rattle.rules.specs.Base.{ascii, null, if◌then◌else◌};
+ghost use Rattle.std.specs.Prelude.{◌≡◌, [], ◌∷◌, ◌++◌, map, ◌≤◌, length, if◌then◌else◌};
+ghost use Rattle.rules.specs.Base.{ascii, null};
 ghost use Rattle.rules.specs.Numbers.{decimal, padded};
 ghost use Rattle.rules.specs.Cutting.{field, split};
 ghost use Rattle.rules.specs.Response.{fields_out, segment_out, st_out, se_out};

@@ -1,8 +1,8 @@
 -- A syntax note is broken by what is present exactly where it is broken at one of a segment's places; and what is present stands in the marks.
-use Rattle.std.proofs.Common.{◌≡◌, ℕ, zero, suc, ◌+◌, ◌-◌, ◌*◌, ◌/◌, ◌%◌, ◌^◌, ◌<◌, ◌≤◌, Bool, true, false, not, ◌&&◌, ◌||◌, eqb, leb, List, [], ◌∷◌, length, get_or, drop, sym, refl, ap, ◌∙◌, pow-suc, add-one, arith, drop_of_length-le, drop-cons, pow_mono, lt-ltb, ne_eqb, eqb-true, leb-true}
+use Rattle.std.proofs.Common.{◌≡◌, ℕ, zero, suc, ◌+◌, ◌-◌, ◌*◌, ◌/◌, ◌%◌, ◌^◌, ◌<◌, ◌≤◌, Bool, true, false, not, ◌&&◌, ◌||◌, eqb, leb, List, [], ◌∷◌, length, get_or, drop, sym, refl, ap, ◌∙◌, pow-suc, add-one, arith, drop_of_length-le, drop-cons, pow_mono, lt-ltb, ne_eqb, eqb-true, leb-true, if◌then◌else◌}
 use native.Mathlib.Nat.{pow-succ', div-div-eq-div-mul, div-eq_of_lt}
 use borrow.Author.Tests.{eqb-false}
-use Rattle.rules.specs.Base.{any, all, between, if◌then◌else◌}
+use Rattle.rules.specs.Base.{any, all, between}
 use Rattle.rules.specs.Cutting.{Segment}
 use Rattle.rules.specs.Elements.{present, is_place, after_present, lacking, excluded}
 use Rattle.rules.specs.Tables.{Syntax}

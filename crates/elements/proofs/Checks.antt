@@ -1,7 +1,7 @@
 -- The check of a segment: one row after the other, and that what it finds is document 01's.
-use Rattle.std.proofs.Common.{◌≡◌, ℕ, zero, suc, ◌+◌, ◌-◌, ◌<◌, ◌≤◌, Bool, true, false, not, ◌&&◌, ◌||◌, eqb, ltb, List, [], ◌∷◌, ◌++◌, map, length, get_or, take, drop, sym, refl, ap, ◌∙◌, true≢false, zero-lt-suc, add-one, arith, length-append, drop_of_length-le, length-take, take_all, drop-cons, take-take, drop-drop, ltb-false, ltb-true, le-ltb, lt-ltb}
+use Rattle.std.proofs.Common.{◌≡◌, ℕ, zero, suc, ◌+◌, ◌-◌, ◌<◌, ◌≤◌, Bool, true, false, not, ◌&&◌, ◌||◌, eqb, ltb, List, [], ◌∷◌, ◌++◌, map, length, get_or, take, drop, sym, refl, ap, ◌∙◌, true≢false, zero-lt-suc, add-one, arith, length-append, drop_of_length-le, length-take, take_all, drop-cons, take-take, drop-drop, ltb-false, ltb-true, le-ltb, lt-ltb, if◌then◌else◌}
 use mathlib.Core.List.{map_congr_left}
-use Rattle.rules.specs.Base.{Bytes, null, any, every, if◌then◌else◌}
+use Rattle.rules.specs.Base.{Bytes, null, any, every}
 use Rattle.rules.specs.Cutting.{split}
 use Rattle.rules.specs.Elements.{is_echoed, longest_echo, echo_of, place_codes, Finding, found, findings}
 use Rattle.rules.specs.Elements as law

@@ -1,6 +1,6 @@
 -- The code of an element's value, test by test.
-use Rattle.std.proofs.Common.{◌≡◌, ℕ, Bool, true, false, not, ◌&&◌, eqb, ltb, leb, [], ◌∷◌, length, sym, refl, ◌∙◌, true≢false, arith, le-ltb, ne_eqb, leb-true}
-use Rattle.rules.specs.Base.{Bytes, null, all, any, between, ◌⇒◌, first, if◌then◌else◌}
+use Rattle.std.proofs.Common.{◌≡◌, ℕ, Bool, true, false, not, ◌&&◌, eqb, ltb, leb, [], ◌∷◌, length, sym, refl, ◌∙◌, true≢false, arith, le-ltb, ne_eqb, leb-true, if◌then◌else◌}
+use Rattle.rules.specs.Base.{Bytes, null, all, any, between, ◌⇒◌, first}
 use Rattle.rules.specs.Cutting.{valid}
 use Rattle.rules.specs.Elements.{is_n0, is_dt, is_tm, value_length, repeats, element_code}
 use Rattle.rules.specs.Numbers.{is_date, is_time}

@@ -1,9 +1,9 @@
 -- The places of a segment: one field after the other, and the codes of each.
-use Rattle.std.proofs.Common.{◌≡◌, ℕ, ◌+◌, ◌-◌, ◌<◌, ◌≤◌, min, max, Bool, true, false, not, ◌&&◌, eqb, ltb, List, [], ◌∷◌, length, drop, refl, ap, ◌∙◌, le_refl, add-zero, arith, length-drop, drop_of_length-le, length-take, ltb-false, ltb-true, le-ltb, lt-ltb, ne_eqb, eqb-true}
+use Rattle.std.proofs.Common.{◌≡◌, ℕ, ◌+◌, ◌-◌, ◌<◌, ◌≤◌, min, max, Bool, true, false, not, ◌&&◌, eqb, ltb, List, [], ◌∷◌, length, drop, refl, ap, ◌∙◌, le_refl, add-zero, arith, length-drop, drop_of_length-le, length-take, ltb-false, ltb-true, le-ltb, lt-ltb, ne_eqb, eqb-true, if◌then◌else◌}
 use native.Mathlib.Nat.{le-max_left, le-max_right}
 use borrow.Author.Tests.{eqb-false}
 use lib.Seq.{take-nil}
-use Rattle.rules.specs.Base.{Bytes, null, between, ◌⇒◌, first, every, if◌then◌else◌}
+use Rattle.rules.specs.Base.{Bytes, null, between, ◌⇒◌, first, every}
 use Rattle.rules.specs.Cutting.{Segment, split, field}
 use Rattle.rules.specs.Elements.{is_dt, is_tm, repeats, spelled, value_length, element_code, present, lacks, shuts_out, place_codes}
 use Rattle.rules.specs.Numbers.{is_date, is_time}

@@ -1,6 +1,6 @@
 -- The check of a segment, place by place, as a function of the cursor: total, whatever the cursor says.
-use Rattle.std.specs.Prelude.{ℕ, ◌+◌, min, max, Bool, true, false, not, ◌||◌, List, [], ◌∷◌, ◌++◌, map, length, drop, ◌==◌, nat_lt}
-use Rattle.rules.specs.Base.{Bytes, every, ◌⇒◌, if◌then◌else◌}
+use Rattle.std.specs.Prelude.{ℕ, ◌+◌, min, max, Bool, true, false, not, ◌||◌, List, [], ◌∷◌, ◌++◌, map, length, drop, ◌==◌, nat_lt, if◌then◌else◌}
+use Rattle.rules.specs.Base.{Bytes, every, ◌⇒◌}
 use Rattle.rules.specs.Cutting.{split}
 use Rattle.rules.specs.Elements.{element_code, is_echoed, Finding, surplus_at}
 use Rattle.rules.specs.declared.Delimiters.{Delimiters}

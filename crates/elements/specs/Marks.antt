@@ -1,6 +1,6 @@
 -- Which places of a segment are present, as bits, and whether a syntax note is broken anywhere by what is present.
-use Rattle.std.specs.Prelude.{ℕ, ◌+◌, ◌*◌, ◌/◌, ◌%◌, ◌^◌, Bool, false, not, ◌&&◌, List, [], ◌∷◌, length, drop, ◌==◌, nat_lt, slice_index}
-use Rattle.rules.specs.Base.{any, all, if◌then◌else◌}
+use Rattle.std.specs.Prelude.{ℕ, ◌+◌, ◌*◌, ◌/◌, ◌%◌, ◌^◌, Bool, false, not, ◌&&◌, List, [], ◌∷◌, length, drop, ◌==◌, nat_lt, slice_index, if◌then◌else◌}
+use Rattle.rules.specs.Base.{any, all}
 use Rattle.rules.specs.Tables.{Syntax}
 use Rattle.rules.specs.declared.Relation.{Relation}
 use Rattle.rules.specs.declared.Relation.TheVariants.{P, R, E, C, L}

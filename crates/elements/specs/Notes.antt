@@ -1,6 +1,6 @@
 -- Syntax notes: whether one is broken at a place, by an element that it asks for or by one that it shuts out.
-use Rattle.std.specs.Prelude.{ℕ, Bool, true, false, List}
-use Rattle.rules.specs.Base.{any, if◌then◌else◌}
+use Rattle.std.specs.Prelude.{ℕ, Bool, true, false, List, if◌then◌else◌}
+use Rattle.rules.specs.Base.{any}
 use Rattle.rules.specs.Cutting.{Segment}
 use Rattle.rules.specs.Elements.{lacking, excluded}
 use Rattle.rules.specs.Tables.{Syntax}

@@ -1,6 +1,6 @@
 -- The code of an element: by its bytes alone, and by its row where all of them are valid.
-use Rattle.std.specs.Prelude.{ℕ, Bool, true, false, not, ◌&&◌, ◌||◌, [], ◌∷◌, nat_lt}
-use Rattle.rules.specs.Base.{Bytes, ◌⇒◌, first, null, all, between, is_digit, member, if◌then◌else◌}
+use Rattle.std.specs.Prelude.{ℕ, Bool, true, false, not, ◌&&◌, ◌||◌, [], ◌∷◌, nat_lt, if◌then◌else◌}
+use Rattle.rules.specs.Base.{Bytes, ◌⇒◌, first, null, all, between, is_digit, member}
 use Rattle.rules.specs.Cutting.{valid}
 use Rattle.rules.specs.Elements.{is_n0, is_dt, is_tm, unsigned, value_length, repeats}
 use Rattle.rules.specs.Numbers.{is_date, is_time}

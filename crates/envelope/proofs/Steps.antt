@@ -1,4 +1,5 @@
 -- The envelope over segments alone: what check 7 asks of the segments from a place on where a group is due, group by group.
+use Rattle.std.specs.Prelude.{if◌then◌else◌}
 use mathlib.Core.Path.{◌≡◌, refl, sym, ap, ◌∙◌}
 use mathlib.Core.Bool.{Bool, true, false, ◌&&◌, not, false≢true}
 use mathlib.Core.List.{List, [], ◌∷◌, ◌++◌, map, append-nil}
@@ -7,7 +8,7 @@ use Prim.Native.Nat.{ℕ, zero, suc}
 use borrow.Author.Tests.{not-true}
 use lib.Dec.{leb, leb-zero, leb-suc-zero, leb-suc-suc}
 use lib.ListN.{length, drop, get_or}
-use Rattle.rules.specs.Base.{Bytes, ascii, same, null, all, any, front, last, push, if◌then◌else◌}
+use Rattle.rules.specs.Base.{Bytes, ascii, same, null, all, any, front, last, push}
 use Rattle.rules.specs.Cutting.{Segment, field, is_named}
 use Rattle.rules.specs.Groups.{Group, group_with, cut_after_ge, groups_of, is_g_e}
 use Rattle.rules.specs.Refusals.{is_envelope, is_whole_group, enveloped}

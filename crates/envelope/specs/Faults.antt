@@ -1,6 +1,6 @@
 -- What is wrong with IEA.
-use Rattle.std.specs.Prelude.{ℕ, not}
-use Rattle.rules.specs.Base.{Bytes, if◌then◌else◌}
+use Rattle.std.specs.Prelude.{ℕ, not, if◌then◌else◌}
+use Rattle.rules.specs.Base.{Bytes}
 use Rattle.rules.specs.Cutting.{Segment}
 use Rattle.rules.specs.Refusals.{has_two, closes, counts_groups}
 use Rattle.envelope.specs.declared.TrailerFault.{TrailerFault}

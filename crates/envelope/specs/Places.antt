@@ -1,7 +1,7 @@
 -- Where the parts of an interchange lie, as offsets.
-use Rattle.std.specs.Prelude.{ℕ, zero, suc, ◌+◌, Bool, true, false, ◌&&◌, List, [], ◌∷◌, ltb, leb, length, drop}
+use Rattle.std.specs.Prelude.{ℕ, zero, suc, ◌+◌, Bool, true, false, ◌&&◌, List, [], ◌∷◌, ltb, leb, length, drop, if◌then◌else◌}
 use Rattle.std.proofs.Math.Option.{Option, none, some}
-use Rattle.rules.specs.Base.{Bytes, ascii, member, if◌then◌else◌}
+use Rattle.rules.specs.Base.{Bytes, ascii, member}
 use Rattle.rules.specs.Cutting.{Segment, is_named, pieces, split, segments}
 use Rattle.rules.specs.Groups.{Group, is_g_e}
 use Rattle.rules.specs.Refusals.{is_envelope}

@@ -1,5 +1,6 @@
 -- The first bytes of an input decide what is printed: a line that calls has at most 23, its LF is one, and an interchange of more than 65,536 is
 -- refused whatever it holds.
+use Rattle.std.specs.Prelude.{if◌then◌else◌}
 use Prim.Native.Nat.{ℕ, zero, suc, ◌+◌, ◌≤◌, ◌<◌}
 use mathlib.Core.Path.{◌≡◌, refl, sym, ◌∙◌}
 use mathlib.Core.Bool.{Bool, true, false, not}
@@ -10,7 +11,7 @@ use borrow.Author.Tests.{leb-true, leb-false, le-leb, lt-leb}
 use lib.Dec.{leb, eqb}
 use lib.ListN.{length, take}
 use lib.Seq.{take_all, length-take-le}
-use Rattle.rules.specs.Base.{Bytes, Rule, ◌⇒◌, first, between, if◌then◌else◌}
+use Rattle.rules.specs.Base.{Bytes, Rule, ◌⇒◌, first, between}
 use Rattle.rules.specs.Answers.{Replies, answer, fitting}
 use Rattle.rules.specs.Refusals.{good_call, call_rules, head_rules, refusal_rules, refusal}
 use Rattle.rules.specs.InterchangeAcknowledgment.{interchange_rules, interchange_refusal}

@@ -1,4 +1,5 @@
 -- The call of an input: where its first line ends, the numbers of the line, and what is printed for it.
+use Rattle.std.specs.Prelude.{if◌then◌else◌}
 use Prim.Native.Nat.{ℕ, zero, suc, ◌+◌, ◌-◌, ◌<◌, ◌≤◌}
 use mathlib.Core.Path.{◌≡◌, refl, sym, ap, ◌∙◌}
 use mathlib.Core.Bool.{Bool, true, false, ◌&&◌}
@@ -11,7 +12,7 @@ use borrow.Author.Tests.{ltb-true, ltb-false}
 use lib.Dec.{eqb, ltb, lit<}
 use lib.ListN.{length, get_or, take, drop, length-drop, drop_of_length-le}
 use lib.Seq.{take-nil, take_all, length-take-le, slice}
-use Rattle.rules.specs.Base.{Bytes, if◌then◌else◌}
+use Rattle.rules.specs.Base.{Bytes}
 use Rattle.rules.specs.Numbers.{digits, value}
 use Rattle.rules.specs.Program.{Input, parted, behind_byte, is_call, refused_text, printed_reply, printed_call, printed_for}
 use Rattle.rules.specs.Answers.{Replies}

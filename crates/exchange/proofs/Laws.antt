@@ -1,4 +1,5 @@
 -- What is printed for an answer and for a call, and how long it is.
+use Rattle.std.specs.Prelude.{if◌then◌else◌}
 use Prim.Native.Nat.{ℕ, ◌≤◌, ◌<◌, max}
 use mathlib.Core.Path.{◌≡◌, refl, sym, ◌∙◌}
 use mathlib.Core.Bool.{Bool, true, false}
@@ -6,7 +7,7 @@ use native.Mathlib.Omega.{arith}
 use borrow.Author.Tests.{leb-true}
 use lib.Dec.{leb, eqb}
 use lib.ListN.{length, drop, length-append}
-use Rattle.rules.specs.Base.{Bytes, if◌then◌else◌}
+use Rattle.rules.specs.Base.{Bytes}
 use Rattle.rules.specs.Answers.{Reply, Replies, answer, buffer, Allowed}
 use Rattle.rules.specs.Program.{refused_text, printed_as, printed_reply, printed}
 use Rattle.rules.specs.declared.Answer.{Answer}

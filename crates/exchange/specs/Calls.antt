@@ -1,7 +1,7 @@
 -- What the first line of an input calls for.
-use Rattle.std.specs.Prelude.{◌+◌, length}
+use Rattle.std.specs.Prelude.{◌+◌, length, if◌then◌else◌}
 use Rattle.std.proofs.Math.Option.{Option, none, some}
-use Rattle.rules.specs.Base.{Bytes, if◌then◌else◌}
+use Rattle.rules.specs.Base.{Bytes}
 use Rattle.rules.specs.Program.{Input, parted, is_call, call_on}
 use Rattle.exchange.specs.declared.first_line.FirstLine.{FirstLine}
 use Rattle.exchange.specs.declared.first_line.FirstLine.TheVariants.{Numbers, Bad}

@@ -1,4 +1,5 @@
 -- What a walk from the start has to tell is the notes of document 01.
+use Rattle.std.specs.Prelude.{if◌then◌else◌}
 use mathlib.Core.Path.{◌≡◌, refl, sym, ap, ◌∙◌}
 use mathlib.Core.Bool.{Bool, true, false, ◌&&◌, ◌||◌, not}
 use mathlib.Core.List.{List, [], ◌∷◌, ◌++◌, map, append-nil, append_assoc}
@@ -11,7 +12,7 @@ use borrow.Author.Tests.{lt-ltb, le-ltb, ltb-true, ltb-false, eq-eqb, ne_eqb}
 use lib.Dec.{ltb, eqb}
 use lib.ListN.{length, take, drop, get_or, length-map}
 use lib.Seq.{slice, slice_empty, take-nil, drop-cons, get_or-drop}
-use Rattle.rules.specs.Base.{Bytes, ascii, null, all, same, member, keep, every, ◌⇒◌, if◌then◌else◌}
+use Rattle.rules.specs.Base.{Bytes, ascii, null, all, same, member, keep, every, ◌⇒◌}
 use Rattle.rules.specs.Cutting.{Segment, field, cut_at, pieces, segments}
 use Rattle.rules.specs.Tables.{Entry, Table}
 use Rattle.tables.specs.Rows.{column, is_row, filled, entry_is, entries_in, ids_in, table_of}

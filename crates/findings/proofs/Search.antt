@@ -1,4 +1,5 @@
 -- The entries that are missing among rows.
+use Rattle.std.specs.Prelude.{if◌then◌else◌}
 use mathlib.Core.Path.{◌≡◌, refl}
 use mathlib.Core.Bool.{Bool, true, false, ◌&&◌, true≢false}
 use mathlib.Core.List.{List, [], ◌∷◌}
@@ -9,7 +10,6 @@ use borrow.Author.Tests.{lt-ltb, ltb-true, ltb-false}
 use lib.Dec.{ltb}
 use lib.ListN.{length, get_or, drop, length-drop, length-take}
 use lib.Seq.{slice, drop-drop, get_or-drop, get_or-take}
-use Rattle.rules.specs.Base.{if◌then◌else◌}
 use Rattle.rules.proofs.Logic.{and_left, and_right}
 use Rattle.text.specs.Text.{index_where}
 use Rattle.tables.specs.Reading.{Guide, next_mandatory, is_mandatory_row, id_at, id_bytes}

@@ -1,4 +1,5 @@
 -- The law of a step: what a walk has left is what the step says and what is left after it, whatever the cursor.
+use Rattle.std.specs.Prelude.{if◌then◌else◌}
 use mathlib.Core.Path.{◌≡◌, refl}
 use mathlib.Core.Bool.{Bool, true, false, ◌||◌}
 use mathlib.Core.List.{List, []}
@@ -7,7 +8,7 @@ use native.Mathlib.Omega.{arith}
 use borrow.Author.Tests.{ltb-true, ltb-false, ne_eqb}
 use lib.Dec.{ltb, eqb}
 use lib.ListN.{length, drop}
-use Rattle.rules.specs.Base.{Bytes, ascii, if◌then◌else◌}
+use Rattle.rules.specs.Base.{Bytes, ascii}
 use Rattle.rules.specs.Cutting.{field, split}
 use Rattle.rules.specs.declared.Delimiters.{Delimiters}
 use Rattle.text.specs.Text.{index_of, part}

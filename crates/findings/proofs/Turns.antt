@@ -1,5 +1,6 @@
 -- What a walk tells at all, segment by segment: a segment is told by its standing, by an entry that it passes over or by its elements, or the
 -- rest decides.
+use Rattle.std.specs.Prelude.{if◌then◌else◌}
 use mathlib.Core.Path.{◌≡◌, refl, sym, ◌∙◌}
 use mathlib.Core.Bool.{Bool, true, false, not, true≢false}
 use mathlib.Core.List.{List, [], ◌∷◌, ◌++◌, map}
@@ -8,7 +9,7 @@ use native.Mathlib.Omega.{arith}
 use lib.Dec.{eqb, ltb}
 use lib.ListN.{take, get_or, length-take, drop_of_length-le}
 use lib.Seq.{slice}
-use Rattle.rules.specs.Base.{null, every, if◌then◌else◌}
+use Rattle.rules.specs.Base.{null, every}
 use Rattle.rules.specs.Cutting.{Segment, field}
 use Rattle.tables.specs.Rows.{column}
 use Rattle.rules.specs.Elements.{Finding, findings}

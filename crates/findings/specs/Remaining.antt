@@ -1,7 +1,7 @@
 -- What a walk has left to tell: a slot for each segment and for a missing trailer, and in each slot its events.
-use Rattle.std.specs.Prelude.{ℕ, Bool, not, List, [], ◌∷◌, ◌++◌, map, eqb, drop}
+use Rattle.std.specs.Prelude.{ℕ, Bool, not, List, [], ◌∷◌, ◌++◌, map, eqb, drop, if◌then◌else◌}
 use Rattle.std.proofs.Math.Seq.{slice}
-use Rattle.rules.specs.Base.{Bytes, ascii, null, if◌then◌else◌}
+use Rattle.rules.specs.Base.{Bytes, ascii, null}
 use Rattle.rules.specs.Cutting.{Segment, field, split, segments}
 use Rattle.rules.specs.Elements.{Finding, findings}
 use Rattle.rules.specs.Segments.{echoed}

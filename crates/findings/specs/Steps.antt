@@ -1,6 +1,6 @@
 -- One step of the walk, as a function of the cursor: total, whatever the cursor says.
-use Rattle.std.specs.Prelude.{ℕ, ◌+◌, Bool, ◌&&◌, ◌||◌, not, List, [], ◌∷◌, ltb, eqb, length, drop, get_or}
-use Rattle.rules.specs.Base.{Bytes, ◌⇒◌, every, ascii, member, if◌then◌else◌}
+use Rattle.std.specs.Prelude.{ℕ, ◌+◌, Bool, ◌&&◌, ◌||◌, not, List, [], ◌∷◌, ltb, eqb, length, drop, get_or, if◌then◌else◌}
+use Rattle.rules.specs.Base.{Bytes, ◌⇒◌, every, ascii, member}
 use Rattle.rules.specs.Cutting.{field, split}
 use Rattle.rules.specs.declared.Delimiters.{Delimiters}
 use Rattle.text.specs.Text.{index_of, part}

@@ -1,6 +1,6 @@
 -- What a segment comes to before its elements are read.
-use Rattle.std.specs.Prelude.{ℕ, Bool, true, false, List, [], ltb, get_or}
-use Rattle.rules.specs.Base.{Bytes, if◌then◌else◌}
+use Rattle.std.specs.Prelude.{ℕ, Bool, true, false, List, [], ltb, get_or, if◌then◌else◌}
+use Rattle.rules.specs.Base.{Bytes}
 use Rattle.tables.specs.Rows.{column}
 use Rattle.tables.specs.Reading.{Guide}
 use Rattle.findings.specs.Steps.{bumped, stands, next_missing}

@@ -1,7 +1,6 @@
 #![tactic(auto)]
 // The walk of a set through its table: a cursor goes in by value, and how the next segment stands comes back with the next cursor.
-ghost use Rattle.std.specs.Prelude.{◌≡◌, ◌+◌, ◌<◌, ltb};
-ghost use Rattle.rules.specs.Base.{if◌then◌else◌};
+ghost use Rattle.std.specs.Prelude.{◌≡◌, ◌+◌, ◌<◌, ltb, if◌then◌else◌};
 ghost use Rattle.tables.specs.Reading.{entry_at};
 ghost use Rattle.findings.specs.Steps as steps;
 ghost use Rattle.findings.specs.declared.Standing.TheVariants as standing;

@@ -1,10 +1,11 @@
 -- The table that stands where a set's is sought is the one that document 01 gives it.
+use Rattle.std.specs.Prelude.{if◌then◌else◌}
 use mathlib.Core.Path.{◌≡◌, refl}
 use mathlib.Core.Bool.{Bool, true, false, ◌&&◌, not}
 use mathlib.Core.List.{◌++◌}
 use mathlib.Core.Option.{Option, none, some}
 use lib.Dec.{lit≤}
-use Rattle.rules.specs.Base.{Bytes, ascii, same, is_none, if◌then◌else◌}
+use Rattle.rules.specs.Base.{Bytes, ascii, same, is_none}
 use Rattle.rules.specs.Cutting.{Segment, field}
 use Rattle.rules.specs.Tables.{Table, edition_table, set_table, table006010, table004010}
 use Rattle.rules.specs.Sets.{Set}

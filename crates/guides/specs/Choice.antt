@@ -1,7 +1,7 @@
 -- Which table a set has, by its group's GS and its ST01, and where that stands among the rows of all tables.
-use Rattle.std.specs.Prelude.{ℕ, ◌-◌, ◌≤◌, Bool, true, false, ◌&&◌, List, length, take, drop}
+use Rattle.std.specs.Prelude.{ℕ, ◌-◌, ◌≤◌, Bool, true, false, ◌&&◌, List, length, take, drop, if◌then◌else◌}
 use Rattle.std.proofs.Math.Option.{Option, none, some}
-use Rattle.rules.specs.Base.{Bytes, ascii, same, if◌then◌else◌}
+use Rattle.rules.specs.Base.{Bytes, ascii, same}
 use Rattle.rules.specs.Cutting.{Segment}
 use Rattle.rules.specs.Tables.{Table}
 use Rattle.rules.specs.Groups.{supported, edition}

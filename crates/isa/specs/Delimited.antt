@@ -1,6 +1,6 @@
 -- What refusals 2 to 5 come to.
-use Rattle.std.specs.Prelude.{ℕ, eqb}
-use Rattle.rules.specs.Base.{Bytes, first, if◌then◌else◌}
+use Rattle.std.specs.Prelude.{ℕ, eqb, if◌then◌else◌}
+use Rattle.rules.specs.Base.{Bytes, first}
 use Rattle.rules.specs.Cutting.{delimiters}
 use Rattle.rules.specs.Refusals.{head_rules}
 use Rattle.rules.specs.declared.Delimiters.{Delimiters}

@@ -1,4 +1,5 @@
 -- A look at a set is quiet where the set has a trailer and its walk tells nothing.
+use Rattle.std.specs.Prelude.{if◌then◌else◌}
 use mathlib.Core.Path.{◌≡◌, refl, sym, ap, ◌∙◌}
 use mathlib.Core.Bool.{Bool, true, false, ◌&&◌}
 use mathlib.Core.List.{List, [], ◌∷◌, ◌++◌}
@@ -8,7 +9,7 @@ use native.Mathlib.Omega.{arith}
 use borrow.Author.Tests.{lt-ltb, ltb-true, ltb-false, leb-true}
 use lib.Dec.{eqb, ltb}
 use lib.ListN.{length, get_or, take, drop}
-use Rattle.rules.specs.Base.{Bytes, null, listed, if◌then◌else◌}
+use Rattle.rules.specs.Base.{Bytes, null, listed}
 use Rattle.rules.specs.Cutting.{Segment, field, split, pieces, segments}
 use Rattle.rules.specs.Elements.{findings}
 use Rattle.rules.specs.Sets.{is_st, is_se, body_of, trailer_of}

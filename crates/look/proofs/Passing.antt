@@ -1,4 +1,5 @@
 -- A look at the segment that the bytes begin with comes to what the segment's own bytes say, where the table has the valid bytes.
+use Rattle.std.specs.Prelude.{if◌then◌else◌}
 use Prim.Native.Nat.{ℕ, zero, suc, ◌+◌, ◌-◌, ◌<◌, ◌≤◌, suc-le-suc}
 use mathlib.Core.Path.{◌≡◌, refl, sym, ap, ◌∙◌}
 use mathlib.Core.Bool.{Bool, true, false, ◌&&◌, ◌||◌, not, true≢false}
@@ -10,7 +11,7 @@ use borrow.Author.Tests.{lt-ltb, le-ltb, ltb-true, ltb-false, le-leb, lt-leb, le
 use lib.Dec.{eqb, ltb, leb}
 use lib.ListN.{length, get_or, take, drop, length-drop}
 use lib.Seq.{length-take-le, take-take, get_or-take, get_or-drop}
-use Rattle.rules.specs.Base.{Bytes, null, all, any, between, if◌then◌else◌}
+use Rattle.rules.specs.Base.{Bytes, null, all, any, between}
 use Rattle.rules.specs.Cutting.{Segment, split, field, valid, marks}
 use Rattle.rules.specs.Elements.{repeats, element_code, present, place_codes, Finding, found, surplus_at, findings, findings_from}
 use Rattle.rules.specs.Tables.{Row, Syntax}

@@ -1,4 +1,5 @@
 -- The rows of an entry at a cursor: what the field of one row comes to, and what is left from the next row on.
+use Rattle.std.specs.Prelude.{if◌then◌else◌}
 use Prim.Native.Nat.{ℕ, ◌+◌, ◌-◌, ◌<◌, ◌≤◌}
 use mathlib.Core.Path.{◌≡◌, refl, ap, ◌∙◌}
 use mathlib.Core.Bool.{Bool, true, false, ◌&&◌}
@@ -10,7 +11,7 @@ use borrow.Author.Tests.{ltb-true}
 use lib.Dec.{eqb, ltb, lit<}
 use lib.ListN.{length, get_or, drop, drop_of_length-le, length-take, length-drop}
 use lib.Seq.{drop-cons}
-use Rattle.rules.specs.Base.{Bytes, if◌then◌else◌}
+use Rattle.rules.specs.Base.{Bytes}
 use Rattle.rules.specs.Tables.{Row}
 use Rattle.rules.specs.declared.Delimiters.{Delimiters}
 use Rattle.text.specs.Text.{next_where, part}

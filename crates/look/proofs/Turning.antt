@@ -1,4 +1,5 @@
 -- Where a segment stands by a look is where it stands in the walk of a set, for an orderly table.
+use Rattle.std.specs.Prelude.{if◌then◌else◌}
 use mathlib.Core.Path.{◌≡◌, refl, sym, ap, ◌∙◌}
 use mathlib.Core.Bool.{Bool, true, false, ◌&&◌, ◌||◌, not, true≢false, false≢true}
 use mathlib.Core.List.{List, [], ◌∷◌}
@@ -9,7 +10,7 @@ use borrow.Author.Tests.{lt-ltb, le-ltb, ltb-true, ltb-false, leb-true, leb-fals
 use lib.Dec.{leb, ltb}
 use lib.ListN.{length, get_or, take, drop, length-drop, length-take}
 use lib.Seq.{get_or-drop, get_or-take}
-use Rattle.rules.specs.Base.{Bytes, same, all, any, member, if◌then◌else◌}
+use Rattle.rules.specs.Base.{Bytes, same, all, any, member}
 use Rattle.rules.proofs.Logic.{and_left, and_right, or_right, same→eq, all_at}
 use Rattle.text.specs.Text.{index_where, next_where}
 use Rattle.text.proofs.Where.{index_yes, index_no}

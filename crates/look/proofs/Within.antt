@@ -1,4 +1,5 @@
 -- A look stays within the bytes: where a segment ends that is passed, and where the course goes on after it.
+use Rattle.std.specs.Prelude.{if◌then◌else◌}
 use mathlib.Core.Path.{◌≡◌, refl, sym, ◌∙◌}
 use mathlib.Core.Bool.{Bool, true, false, ◌&&◌}
 use mathlib.Core.List.{List, [], ◌∷◌}
@@ -9,7 +10,7 @@ use borrow.Author.Tests.{lt-ltb, ltb-true}
 use lib.Dec.{eqb, ltb}
 use lib.ListN.{length, take, drop, length-drop, length-take}
 use lib.Seq.{take_all, length-take-le}
-use Rattle.rules.specs.Base.{Bytes, ascii, same, if◌then◌else◌}
+use Rattle.rules.specs.Base.{Bytes, ascii, same}
 use Rattle.rules.specs.declared.Delimiters.{Delimiters}
 use Rattle.text.specs.Text.{next_where, part}
 use Rattle.text.proofs.Where.{next_within}

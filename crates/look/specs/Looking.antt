@@ -1,6 +1,6 @@
 -- One look at a set: the segments one after the other, each at the present entry or at the next that is due.
-use Rattle.std.specs.Prelude.{ℕ, zero, suc, ◌+◌, Bool, List, [], leb, ltb, length, get_or, take, drop}
-use Rattle.rules.specs.Base.{Bytes, ascii, same, if◌then◌else◌}
+use Rattle.std.specs.Prelude.{ℕ, zero, suc, ◌+◌, Bool, List, [], leb, ltb, length, get_or, take, drop, if◌then◌else◌}
+use Rattle.rules.specs.Base.{Bytes, ascii, same}
 use Rattle.rules.specs.declared.Delimiters.{Delimiters}
 use Rattle.tables.specs.Rows.{column}
 use Rattle.tables.specs.Reading.{Guide, is_entry_row, next_due}

@@ -1,4 +1,5 @@
 -- What is told of a segment and of a place: its id in bytes, its codes one by one, its findings.
+use Rattle.std.specs.Prelude.{if◌then◌else◌}
 use mathlib.Core.Path.{◌≡◌, refl, sym, ◌∙◌, ap}
 use mathlib.Core.Bool.{Bool, true, false, ◌&&◌, not, true≢false}
 use mathlib.Core.List.{List, [], ◌∷◌, ◌++◌, map, map-append}
@@ -9,7 +10,7 @@ use borrow.Author.Tests.{ne_eqb}
 use lib.Dec.{eqb}
 use lib.ListN.{length, take, get_or}
 use lib.Seq.{slice}
-use Rattle.rules.specs.Base.{Bytes, ◌⇒◌, ascii, null, all, between, is_upper_or_digit, every, if◌then◌else◌}
+use Rattle.rules.specs.Base.{Bytes, ◌⇒◌, ascii, null, all, between, is_upper_or_digit, every}
 use Rattle.rules.specs.Cutting.{field, split}
 use Rattle.rules.specs.Elements.{Finding, findings}
 use Rattle.rules.specs.Numbers.{decimal}

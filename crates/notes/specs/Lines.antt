@@ -1,6 +1,6 @@
 -- What is told of a segment and of a place, by value.
-use Rattle.std.specs.Prelude.{ℕ, false, ◌&&◌, List, [], ◌∷◌, eqb, length, get_or}
-use Rattle.rules.specs.Base.{Bytes, all, between, is_upper_or_digit, if◌then◌else◌}
+use Rattle.std.specs.Prelude.{ℕ, false, ◌&&◌, List, [], ◌∷◌, eqb, length, get_or, if◌then◌else◌}
+use Rattle.rules.specs.Base.{Bytes, all, between, is_upper_or_digit}
 use Rattle.rules.specs.Elements.{Finding}
 use Rattle.rules.specs.declared.Delimiters.{Delimiters}
 use Rattle.tables.specs.Reading.{Guide, id_at}

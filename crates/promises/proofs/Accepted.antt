@@ -1,11 +1,12 @@
 -- Demand 2, group by group: what a buffer with a response tells of each set of each group, what it shows of its elements, and what it counts.
 -- `Faces` carries it to both faces.
+use Rattle.std.specs.Prelude.{if◌then◌else◌}
 use mathlib.Core.Path.{◌≡◌, refl, sym, ap, ◌∙◌, subst⁻¹}
 use mathlib.Core.Logic.{◌↔◌}
 use mathlib.Core.List.{List, [], ◌++◌, append_assoc}
 use Prim.Native.Nat.{ℕ, ◌+◌, ◌≤◌, ◌<◌}
 use lib.ListN.{length, take, drop, get_or}
-use Rattle.rules.specs.Base.{Bytes, ascii, same, keep, if◌then◌else◌}
+use Rattle.rules.specs.Base.{Bytes, ascii, same, keep}
 use Rattle.rules.specs.Cutting.{Segment, field, repetition_in, delimiters}
 use Rattle.rules.specs.Numbers.{padded, decimal}
 use Rattle.rules.specs.Sets.{Set, segments_of, SetReport, set_report, is_st}

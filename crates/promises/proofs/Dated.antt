@@ -1,5 +1,6 @@
 -- Where an interchange is answered, the caller's date, each GS04, and every B103 of an accepted set that is not empty are days of the calendar. `Faces`
 -- carries it to both faces.
+use Rattle.std.specs.Prelude.{if◌then◌else◌}
 use mathlib.Core.Path.{◌≡◌, refl, sym, ap, ◌∙◌}
 use mathlib.Core.Bool.{Bool, true, false, ◌&&◌, ◌||◌, not, true≢false}
 use mathlib.Core.List.{List, [], ◌∷◌, ◌++◌, map, append-eq-nil_iff, cons-ne-nil}
@@ -7,7 +8,7 @@ use mathlib.Core.Option.{some}
 use Prim.Native.Nat.{ℕ, zero, suc, ◌+◌, ◌/◌, ◌%◌, ◌<◌}
 use lib.Dec.{leb, ltb, eqb}
 use lib.ListN.{length, get_or}
-use Rattle.rules.specs.Base.{Bytes, ascii, null, any, same, between, first, every, ◌⇒◌, listed, is_none, if◌then◌else◌}
+use Rattle.rules.specs.Base.{Bytes, ascii, null, any, same, between, first, every, ◌⇒◌, listed, is_none}
 use Rattle.rules.specs.Cutting.{Segment, field, delimiters}
 use Rattle.rules.specs.Numbers.{digits, value, is_day, is_date}
 use Rattle.rules.specs.Tables.{Row, Syntax, Table, row, O, directory, b1_rows, table006010, table004010}

@@ -1,11 +1,12 @@
 -- A number that we write reads as that number: `decimal` is right for every number below 10^20, so for every number of 64 bits.
+use Rattle.std.specs.Prelude.{if◌then◌else◌}
 use mathlib.Core.Path.{◌≡◌, refl, ◌∙◌}
 use mathlib.Core.Bool.{Bool, true, false}
 use mathlib.Core.List.{[], ◌∷◌, ◌++◌}
 use Prim.Native.Nat.{ℕ, zero, suc, ◌+◌, ◌-◌, ◌*◌, ◌/◌, ◌%◌, ◌<◌}
 use native.Mathlib.Omega.{arith}
 use lib.Dec.{ltb}
-use Rattle.rules.specs.Base.{Bytes, null, if◌then◌else◌}
+use Rattle.rules.specs.Base.{Bytes, null}
 use Rattle.rules.specs.Numbers.{value_from, value, digits_of, decimal}
 use Rattle.rules.proofs.Lengths.{either}
 

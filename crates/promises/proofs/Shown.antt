@@ -1,4 +1,5 @@
 -- The outcome of a call, whichever face it was made by: what each number says of the length and the buffer, and the examples of document 01.
+use Rattle.std.specs.Prelude.{if◌then◌else◌}
 use mathlib.Core.Path.{◌≡◌, refl, sym, ap, ◌∙◌}
 use mathlib.Core.Bool.{Bool, true, false, ◌&&◌, not}
 use mathlib.Core.List.{◌++◌}
@@ -7,7 +8,7 @@ use native.Mathlib.Omega.{arith}
 use borrow.Author.Tests.{not-true, eq-eqb, ne_eqb, eqb-true, eqb-false, leb-true, le-leb, lt-leb}
 use lib.Dec.{leb, eqb}
 use lib.ListN.{length, drop, get_or}
-use Rattle.rules.specs.Base.{Bytes, same, if◌then◌else◌}
+use Rattle.rules.specs.Base.{Bytes, same}
 use Rattle.rules.specs.Refusals.{refusal}
 use Rattle.rules.specs.Response.{response}
 use Rattle.rules.specs.InterchangeAcknowledgment.{interchange_refusal}

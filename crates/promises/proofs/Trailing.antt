@@ -1,4 +1,5 @@
 -- "Empty trailing elements are left off": the last field of every segment of a response is filled.
+use Rattle.std.specs.Prelude.{if◌then◌else◌}
 use mathlib.Core.Path.{◌≡◌, refl}
 use mathlib.Core.Bool.{Bool, true, false, ◌&&◌, not, false≢true}
 use mathlib.Core.List.{List, [], ◌∷◌, ◌++◌, map}
@@ -7,7 +8,7 @@ use Prim.Native.Nat.{ℕ, suc, ◌+◌, ◌/◌, ◌%◌}
 use borrow.Author.Tests.{not-false}
 use lib.Dec.{eqb}
 use lib.ListN.{length}
-use Rattle.rules.specs.Base.{Bytes, ascii, null, all, last, is_upper_or_digit, keep, first, every, ◌⇒◌, if◌then◌else◌}
+use Rattle.rules.specs.Base.{Bytes, ascii, null, all, last, is_upper_or_digit, keep, first, every, ◌⇒◌}
 use Rattle.rules.specs.Cutting.{Segment, field, delimiters, text}
 use Rattle.rules.specs.Numbers.{digits, is_date, is_time, padded, decimal}
 use Rattle.rules.specs.Tables.{Table, Entry}

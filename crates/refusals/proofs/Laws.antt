@@ -1,4 +1,5 @@
 -- The first number that is not 0, stage by stage, and what the checks answer.
+use Rattle.std.specs.Prelude.{if◌then◌else◌}
 use mathlib.Core.Path.{◌≡◌, refl, sym, ap, ◌∙◌}
 use mathlib.Core.Bool.{Bool, true, false, not}
 use mathlib.Core.List.{List, [], ◌∷◌, ◌++◌}
@@ -7,7 +8,7 @@ use native.Mathlib.Omega.{arith}
 use borrow.Author.Tests.{eqb-true, eqb-false, ltb-true, ltb-false, lt-ltb, ne_eqb}
 use lib.Dec.{T, ltb, eqb}
 use lib.ListN.{length}
-use Rattle.rules.specs.Base.{Bytes, Rule, ◌⇒◌, first, last, if◌then◌else◌}
+use Rattle.rules.specs.Base.{Bytes, Rule, ◌⇒◌, first, last}
 use Rattle.rules.specs.Cutting.{field, isa, delimiters, segments, split}
 use Rattle.rules.specs.Groups.{Group, groups_of}
 use Rattle.rules.specs.Refusals.{good_call, call_rules, head_rules, is_terminated, end_rules, enveloped, most_groups, envelope_rules, has_two, closes, counts_groups, trailer_rules, good_gs, header_rules, answer_rules, set_rules, group_rules, groups_rules, refusal_rules, refusal}

@@ -1,6 +1,6 @@
 -- What the checks of an interchange come to.
-use Rattle.std.specs.Prelude.{ℕ, [], ◌++◌, eqb, length}
-use Rattle.rules.specs.Base.{Bytes, first, last, if◌then◌else◌}
+use Rattle.std.specs.Prelude.{ℕ, [], ◌++◌, eqb, length, if◌then◌else◌}
+use Rattle.rules.specs.Base.{Bytes, first, last}
 use Rattle.rules.specs.Cutting.{field, isa, delimiters, split, segments}
 use Rattle.rules.specs.Groups.{groups_of}
 use Rattle.rules.specs.Refusals.{call_rules, head_rules, is_terminated, most_groups, group_rules}

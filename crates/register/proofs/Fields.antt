@@ -1,4 +1,5 @@
 -- A field of the segment at a place, byte by byte: where the next one starts, where it ends, and whether it is a given one.
+use Rattle.std.specs.Prelude.{if◌then◌else◌}
 use mathlib.Core.Path.{◌≡◌, refl, sym, ap, ◌∙◌}
 use mathlib.Core.Bool.{Bool, true, false}
 use mathlib.Core.List.{List, [], ◌∷◌, map}
@@ -9,7 +10,7 @@ use borrow.Author.Tests.{eq-eqb, ne_eqb, eqb-true, eqb-false}
 use lib.Dec.{eqb}
 use lib.ListN.{length, get_or, take, drop, length-take, length-drop, drop_of_length-le}
 use lib.Seq.{get_or-take, get_or-drop}
-use Rattle.rules.specs.Base.{Bytes, same, if◌then◌else◌}
+use Rattle.rules.specs.Base.{Bytes, same}
 use Rattle.rules.specs.Cutting.{Segment, field, cut_at, split, pieces, segments}
 use Rattle.rules.specs.declared.Delimiters.{Delimiters}
 use Rattle.rules.proofs.Logic.{same→eq}

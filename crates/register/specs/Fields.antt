@@ -1,6 +1,6 @@
 -- A field of a segment, byte by byte.
-use Rattle.std.specs.Prelude.{ℕ, zero, suc, [], ◌∷◌, eqb}
-use Rattle.rules.specs.Base.{Bytes, if◌then◌else◌}
+use Rattle.std.specs.Prelude.{ℕ, zero, suc, [], ◌∷◌, eqb, if◌then◌else◌}
+use Rattle.rules.specs.Base.{Bytes}
 use Rattle.rules.specs.declared.Delimiters.{Delimiters}
 
 -- field n of the segment that the bytes begin with, byte by byte

@@ -1,5 +1,6 @@
 -- Each group of an answered interchange, alone in its interchange, is answered too, and its 997 is the same but for ST02 and SE02. An
 -- interchange that passes 1 to 8 is refused for what its first group that is refused alone is refused for.
+use Rattle.std.specs.Prelude.{if◌then◌else◌}
 use mathlib.Core.Path.{◌≡◌, refl, sym, ◌∙◌, ap, subst}
 use mathlib.Core.Bool.{Bool, true, false, ◌&&◌, not, false≢true}
 use mathlib.Core.List.{List, [], ◌∷◌, ◌++◌, map, append-nil, append_assoc}
@@ -11,7 +12,7 @@ use borrow.Author.Tests.{not-true, eqb-true, eq-eqb, le-leb, leb-true}
 use lib.Dec.{T, leb, eqb}
 use lib.ListN.{length, take, get_or, length-append}
 use lib.Seq.{take_at, length-take-le}
-use Rattle.rules.specs.Base.{Bytes, Rule, ◌⇒◌, ascii, same, all, is_none, is_digit, last, holds, member, between, first, if◌then◌else◌}
+use Rattle.rules.specs.Base.{Bytes, Rule, ◌⇒◌, ascii, same, all, is_none, is_digit, last, holds, member, between, first}
 use Rattle.rules.specs.Cutting.{Segment, field, is_named, segments, isa, delimiters, repetition_mark, marks, valid}
 use Rattle.rules.specs.Numbers.{digits, value, value_from, count_in, declares, padded, decimal}
 use Rattle.rules.specs.Groups.{Group, groups_of, group_report}

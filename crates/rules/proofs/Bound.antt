@@ -1,4 +1,5 @@
 -- The response to an interchange of at most 65,536 bytes, refused or not, has less than 2^42 bytes, over tables within a named limit.
+use Rattle.std.specs.Prelude.{if◌then◌else◌}
 use Prim.Native.Nat.{ℕ, zero, suc, ◌+◌, ◌*◌, ◌≤◌, ◌<◌}
 use mathlib.Core.Path.{◌≡◌, refl}
 use mathlib.Core.Bool.{Bool, true, false, ◌&&◌, ◌||◌, not}
@@ -8,7 +9,7 @@ use native.Mathlib.Omega.{arith}
 use lib.Dec.{leb, ltb, eqb}
 use lib.ListN.{length, take, drop, get_or, length-append}
 use borrow.Author.Tests.{leb-true}
-use Rattle.rules.specs.Base.{Bytes, Rule, ◌⇒◌, every, null, all, keep, push, front, last, is_none, listed, is_upper_or_digit, ascii, same, if◌then◌else◌}
+use Rattle.rules.specs.Base.{Bytes, Rule, ◌⇒◌, every, null, all, keep, push, front, last, is_none, listed, is_upper_or_digit, ascii, same}
 use Rattle.rules.specs.Cutting.{Segment, field, delimiters, cut_at, split, pieces, segments}
 use Rattle.rules.specs.Numbers.{padded}
 use Rattle.rules.specs.Tables.{Row, Syntax, Entry, Table, edition_table, set_table, table006010, table004010, st_rows, st_rows6, se_rows, b1_rows, l11_rows, k1_rows}

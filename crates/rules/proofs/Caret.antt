@@ -1,11 +1,12 @@
 -- Change request 9: elements with a repetition separator, and separators that are refused, on both sides of each line: whole answers, computed.
+use Rattle.std.specs.Prelude.{if◌then◌else◌}
 use Prim.Native.Nat.{ℕ}
 use Prim.Native.String.{String}
 use mathlib.Core.Path.{◌≡◌, refl}
 use mathlib.Core.Bool.{Bool, true, ◌&&◌, not}
 use mathlib.Core.List.{List, [], ◌∷◌, ◌++◌}
 use lib.Dec.{eqb, leb}
-use Rattle.rules.specs.Base.{Bytes, ascii, same, all, if◌then◌else◌}
+use Rattle.rules.specs.Base.{Bytes, ascii, same, all}
 use Rattle.rules.specs.Refusals.{refusal}
 use Rattle.rules.specs.Response.{response}
 use Rattle.rules.specs.InterchangeAcknowledgment.{interchange_refusal}

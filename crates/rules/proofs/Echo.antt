@@ -1,4 +1,5 @@
 -- The law of the echo: what the findings of a segment show of its elements, over any table; and in the notes of a set, of which segment.
+use Rattle.std.specs.Prelude.{if◌then◌else◌}
 use mathlib.Core.Path.{◌≡◌, refl, sym, ap, ◌∙◌}
 use mathlib.Core.Bool.{Bool, true, false, ◌&&◌, ◌||◌, not, false≢true, true≢false}
 use mathlib.Core.List.{List, [], ◌∷◌, ◌++◌, map}
@@ -10,7 +11,7 @@ use borrow.Author.Tests.{not-true, leb-true, eqb-true, eqb-false, eq-eqb, ne_eqb
 use lib.Dec.{leb, ltb, eqb}
 use lib.ListN.{length, take, get_or, length-take}
 use lib.Seq.{take_all}
-use Rattle.rules.specs.Base.{Bytes, Rule, ◌⇒◌, first, every, null, all, any, between, keep, if◌then◌else◌}
+use Rattle.rules.specs.Base.{Bytes, Rule, ◌⇒◌, first, every, null, all, any, between, keep}
 use Rattle.rules.specs.Cutting.{Segment, field, valid}
 use Rattle.rules.specs.Tables.{Row, Syntax, Entry, Table}
 use Rattle.rules.specs.Elements.{element_code, repeats, present, is_place, after_present, excluded, lacks, shuts_out, shows_value, is_withheld, is_echoed, longest_echo, echo_of, place_codes, Finding, found, surplus_at, findings_from, findings}

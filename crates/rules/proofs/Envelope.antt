@@ -1,4 +1,5 @@
 -- Laws of the envelope: what is read of ISA lies in its 106 bytes, and an interchange that is not refused has the parts that it should.
+use Rattle.std.specs.Prelude.{if◌then◌else◌}
 use mathlib.Core.Path.{◌≡◌, refl, sym, ◌∙◌, ap}
 use mathlib.Core.Bool.{Bool, true, false, ◌&&◌, ◌||◌, not, false≢true}
 use mathlib.Core.List.{List, [], ◌∷◌, ◌++◌, map, append-nil, append_assoc}
@@ -10,7 +11,7 @@ use borrow.Author.Tests.{not-true, not-false, eqb-true, eqb-false, ne_eqb, leb-t
 use lib.Dec.{T, eqb, ltb, leb, lit<, lit≤}
 use lib.ListN.{length, take, drop, get_or, take-append-drop, length-take}
 use lib.Seq.{slice, slice_empty, split_at, take-suc, get_or-take, take-take, drop-append-le}
-use Rattle.rules.specs.Base.{Bytes, Rule, ascii, same, member, between, all, any, front, last, first, if◌then◌else◌}
+use Rattle.rules.specs.Base.{Bytes, Rule, ascii, same, member, between, all, any, front, last, first}
 use Rattle.rules.specs.Cutting.{Segment, field, is_named, segments, split, separators, fields_at, isa, knows_repetition, repetition_in, delimiters, repetition_mark, marks, valid}
 use Rattle.rules.specs.Numbers.{digits}
 use Rattle.rules.specs.Groups.{Group, groups_of, cut_after_ge, is_g_e, sets}

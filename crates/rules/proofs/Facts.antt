@@ -1,4 +1,5 @@
 -- What the definitions promise: one outcome for each call, a verdict by the codes alone, and counts that count.
+use Rattle.std.specs.Prelude.{if◌then◌else◌}
 use mathlib.Core.Path.{◌≡◌, refl, sym, ◌∙◌, ap}
 use mathlib.Core.Bool.{Bool, true, false, ◌&&◌, false≢true}
 use mathlib.Core.List.{List, [], ◌∷◌, ◌++◌, map, append-nil, append_assoc}
@@ -8,7 +9,7 @@ use native.Mathlib.Omega.{arith}
 use borrow.Author.Tests.{ne_eqb, le-leb}
 use lib.Dec.{T, eqb}
 use lib.ListN.{length, length-append}
-use Rattle.rules.specs.Base.{Bytes, ascii, null, same, last, Rule, first, if◌then◌else◌}
+use Rattle.rules.specs.Base.{Bytes, ascii, null, same, last, Rule, first}
 use Rattle.rules.specs.Cutting.{field, delimiters, isa, segments}
 use Rattle.rules.specs.Numbers.{decimal}
 use Rattle.rules.specs.Sets.{Set, control_of, SetReport, accepted}

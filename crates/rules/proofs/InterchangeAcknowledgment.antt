@@ -1,5 +1,6 @@
 -- The acknowledgment of the interchange itself: how long its response is, where its verdict stands in it, and that it agrees with the refusals of
 -- the 997.
+use Rattle.std.specs.Prelude.{if◌then◌else◌}
 use Prim.Native.Nat.{ℕ, ◌-◌, ◌≤◌}
 use mathlib.Core.Path.{◌≡◌, refl, sym, ap, ◌∙◌}
 use mathlib.Core.Bool.{Bool, true, false, ◌&&◌, not}
@@ -10,7 +11,7 @@ use borrow.Author.Tests.{eqb-true, eqb-false, not-false, leb-true}
 use lib.Dec.{T, leb, eqb}
 use lib.ListN.{length, get_or, length-append}
 use lib.Seq.{slice, slice-cons, slice_empty, length-slice, take_at, drop_at}
-use Rattle.rules.specs.Base.{Bytes, Rule, ◌⇒◌, first, last, ascii, same, if◌then◌else◌}
+use Rattle.rules.specs.Base.{Bytes, Rule, ◌⇒◌, first, last, ascii, same}
 use Rattle.rules.specs.Cutting.{Segment, field, separators, fields_at, delimiters, isa, segments}
 use Rattle.rules.specs.Numbers.{padded, digits_of, decimal}
 use Rattle.rules.specs.Groups.{groups_of}

@@ -1,4 +1,5 @@
 -- How long the parts of a response are: numbers, lists of codes, and each segment by what it is made of.
+use Rattle.std.specs.Prelude.{if◌then◌else◌}
 use Prim.Native.Nat.{ℕ, zero, suc, ◌+◌, ◌*◌, ◌/◌, ◌≤◌}
 use mathlib.Core.Path.{◌≡◌, refl}
 use mathlib.Core.Bool.{Bool, true, false}
@@ -6,7 +7,7 @@ use mathlib.Core.List.{List, [], ◌∷◌, ◌++◌, map}
 use native.Mathlib.Omega.{arith}
 use lib.Dec.{ltb, eqb}
 use lib.ListN.{length, length-append, length-drop, length-take}
-use Rattle.rules.specs.Base.{Bytes, Rule, ◌⇒◌, every, ascii, if◌then◌else◌}
+use Rattle.rules.specs.Base.{Bytes, Rule, ◌⇒◌, every, ascii}
 use Rattle.rules.specs.Cutting.{Segment, field, separators, fields_at, isa}
 use Rattle.rules.specs.Numbers.{padded, digits_of, decimal}
 use Rattle.rules.specs.Elements.{Finding}

@@ -1,6 +1,7 @@
 -- Change request 6 lets an interchange have several groups. The law before it, which knew one group alone, is written down again here. Only
 -- the answer to a batch, which passes check 7 with two groups or more, differs from it, and a batch was refused with 7. What later requests
 -- changed is in it too.
+use Rattle.std.specs.Prelude.{if◌then◌else◌}
 use mathlib.Core.Path.{◌≡◌, refl, sym, ◌∙◌, ap}
 use mathlib.Core.Bool.{Bool, true, false, ◌&&◌, not, false≢true, true≢false}
 use mathlib.Core.Logic.{◌⊎◌, inl, inr}
@@ -10,7 +11,7 @@ use native.Mathlib.Omega.{arith}
 use borrow.Author.Tests.{not-true, eqb-true, eqb-false, ne_eqb, le-leb, lt-leb}
 use lib.Dec.{T, leb, eqb}
 use lib.ListN.{length, drop, get_or, length-map}
-use Rattle.rules.specs.Base.{Bytes, Rule, ◌⇒◌, first, all, between, ascii, same, push, front, last, if◌then◌else◌}
+use Rattle.rules.specs.Base.{Bytes, Rule, ◌⇒◌, first, all, between, ascii, same, push, front, last}
 use Rattle.rules.specs.Cutting.{Segment, field, is_named, delimiters, isa, segments}
 use Rattle.rules.specs.Numbers.{padded}
 use Rattle.rules.specs.Groups.{Group, is_g_e, group_with, cut_after_ge, groups_of, group_report}

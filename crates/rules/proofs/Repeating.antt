@@ -1,5 +1,6 @@
 -- Change request 9: the codes of a place, and the findings of a segment, stand in their order; what is found of an element that holds the
 -- repetition separator, and that code 12 is found nowhere else.
+use Rattle.std.specs.Prelude.{if◌then◌else◌}
 use mathlib.Core.Path.{◌≡◌, refl, sym, ap, ◌∙◌}
 use mathlib.Core.Bool.{Bool, true, false, ◌&&◌, ◌||◌, not, false≢true, true≢false}
 use mathlib.Core.Logic.{◌⊎◌, inl, inr}
@@ -11,7 +12,7 @@ use native.Mathlib.Omega.{arith}
 use borrow.Author.Tests.{not-false, leb-true, eqb-true, eq-eqb, ne_eqb}
 use lib.Dec.{leb, ltb, eqb}
 use lib.ListN.{length, take, get_or}
-use Rattle.rules.specs.Base.{Bytes, Rule, ◌⇒◌, first, every, null, all, any, between, keep, listed, member, if◌then◌else◌}
+use Rattle.rules.specs.Base.{Bytes, Rule, ◌⇒◌, first, every, null, all, any, between, keep, listed, member}
 use Rattle.rules.specs.Cutting.{Segment, field, repetition_in, delimiters, separates_repetitions}
 use Rattle.rules.specs.Tables.{Row, Syntax, Entry, Table}
 use Rattle.rules.specs.Elements.{element_code, repeats, present, is_place, lacking, lacks, shuts_out, shows_value, longest_echo, echo_of, place_codes, Finding, found, surplus_at, findings_from, findings}

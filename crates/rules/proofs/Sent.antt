@@ -1,4 +1,5 @@
 -- What a response may hold: in its elements valid bytes and nothing else, but for ISA16; so the repetition separator stands nowhere in it.
+use Rattle.std.specs.Prelude.{if◌then◌else◌}
 use mathlib.Core.Path.{◌≡◌, refl, sym, ap, ◌∙◌}
 use mathlib.Core.Bool.{Bool, true, false, ◌&&◌, ◌||◌, not, or-true, false≢true}
 use mathlib.Core.List.{List, [], ◌∷◌, ◌++◌, map}
@@ -9,7 +10,7 @@ use borrow.Author.Tests.{not-true, not-false, eqb-false, eq-eqb, ne_eqb, le-leb,
 use lib.Dec.{ltb, eqb, lit<}
 use lib.ListN.{length, take, drop, get_or}
 use lib.Seq.{get_or-take, get_or-drop}
-use Rattle.rules.specs.Base.{Bytes, ascii, null, all, any, between, is_digit, is_upper, is_lower, is_upper_or_digit, same, keep, first, every, ◌⇒◌, if◌then◌else◌}
+use Rattle.rules.specs.Base.{Bytes, ascii, null, all, any, between, is_digit, is_upper, is_lower, is_upper_or_digit, same, keep, first, every, ◌⇒◌}
 use Rattle.rules.specs.Cutting.{Segment, field, isa, repetition_in, delimiters, marks, separates_repetitions, valid, text}
 use Rattle.rules.specs.Numbers.{digits, is_date, is_time, padded, digits_of, decimal}
 use Rattle.rules.specs.Tables.{Table, Entry, table006010, table004010, edition_table, set_table}

@@ -1,4 +1,5 @@
 -- Change request 9: what checks 2 to 5 ask of a repetition separator, by the same interchange with `U` in its place.
+use Rattle.std.specs.Prelude.{if◌then◌else◌}
 use mathlib.Core.Path.{◌≡◌, refl, sym, ap, ◌∙◌}
 use mathlib.Core.Bool.{Bool, true, false, ◌&&◌, ◌||◌, not, and-true, false≢true}
 use mathlib.Core.Logic.{◌↔◌}
@@ -9,7 +10,7 @@ use borrow.Author.Tests.{not-true, not-false, eqb-true, eqb-false, leb-true, ltb
 use lib.Dec.{leb, ltb, eqb, lit<, lit≤}
 use lib.ListN.{length, take, drop, get_or, set, length-set}
 use lib.Seq.{slice, length-take-le, slice_empty, split_at, get_or-take, get_or-set_same, get_or-set_other, take-set-le, take-set-lt, drop-set-lt}
-use Rattle.rules.specs.Base.{Bytes, ◌⇒◌, ascii, same, member, between, all, any, first, if◌then◌else◌}
+use Rattle.rules.specs.Base.{Bytes, ◌⇒◌, ascii, same, member, between, all, any, first}
 use Rattle.rules.specs.Cutting.{Segment, field, separators, fields_at, isa, repetition_in, delimiters, marks, valid}
 use Rattle.rules.specs.Numbers.{digits}
 use Rattle.rules.specs.Refusals.{has_isa, plain, distinct, good_marks, text_fields, good_isa, head_rules}

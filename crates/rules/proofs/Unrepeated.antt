@@ -1,5 +1,6 @@
 -- Change request 9 makes ISA11 a fourth delimiter where ISA12 knows repetition. The law before it, which had three, is written down again here.
 -- Where ISA11 is no delimiter, every answer is the former one.
+use Rattle.std.specs.Prelude.{if◌then◌else◌}
 use mathlib.Core.Path.{◌≡◌, refl, ◌∙◌, ap, fun_ext}
 use mathlib.Core.Bool.{Bool, true, false, ◌&&◌, ◌||◌, not}
 use mathlib.Core.List.{List, [], ◌∷◌, ◌++◌, map}
@@ -9,7 +10,7 @@ use native.Mathlib.Omega.{arith}
 use borrow.Author.Tests.{ne_eqb, le-leb, lt-leb}
 use lib.Dec.{ltb, eqb}
 use lib.ListN.{length, take, get_or}
-use Rattle.rules.specs.Base.{Bytes, Rule, ◌⇒◌, first, every, null, is_none, listed, all, any, between, is_digit, is_upper_or_digit, ascii, same, member, last, if◌then◌else◌}
+use Rattle.rules.specs.Base.{Bytes, Rule, ◌⇒◌, first, every, null, is_none, listed, all, any, between, is_digit, is_upper_or_digit, ascii, same, member, last}
 use Rattle.rules.specs.Numbers.{digits, value, is_date, is_time}
 use Rattle.rules.specs.Cutting.{Segment, field, isa, segments, knows_repetition, repetition_in, delimiters, marks, separates_repetitions, valid, text}
 use Rattle.rules.specs.Tables.{Row, Syntax, Entry, Table}

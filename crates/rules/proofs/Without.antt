@@ -1,4 +1,5 @@
 -- Change request 9: an interchange whose groups do not hold its repetition separator is answered as the same one with `U` in ISA11.
+use Rattle.std.specs.Prelude.{if◌then◌else◌}
 use mathlib.Core.Path.{◌≡◌, refl, sym, ap, ◌∙◌, fun_ext}
 use mathlib.Core.Bool.{Bool, true, false, ◌&&◌, ◌||◌, not}
 use mathlib.Core.List.{List, [], ◌∷◌, ◌++◌, map}
@@ -9,7 +10,7 @@ use borrow.Author.Tests.{not-true}
 use lib.Dec.{eqb, lit<}
 use lib.ListN.{length, drop, get_or, set}
 use lib.Seq.{drop-set-lt}
-use Rattle.rules.specs.Base.{Bytes, Rule, ◌⇒◌, ascii, first, is_none, listed, all, any, push, front, last, if◌then◌else◌}
+use Rattle.rules.specs.Base.{Bytes, Rule, ◌⇒◌, ascii, first, is_none, listed, all, any, push, front, last}
 use Rattle.rules.specs.Cutting.{Segment, field, is_named, segments, isa, repetition_in, delimiters, marks, separates_repetitions, valid, text}
 use Rattle.rules.specs.Tables.{Row, Syntax, Entry, Table}
 use Rattle.rules.specs.Elements.{repeats, element_code, Finding, place_codes, found, findings_from, findings}

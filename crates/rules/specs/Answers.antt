@@ -1,6 +1,6 @@
 -- "What is delivered": the answer, and for each of its cases the number, the length and the buffer afterwards.
-use Rattle.std.specs.Prelude.{ℕ, ◌≡◌, ◌++◌, leb, eqb, length, drop}
-use Rattle.rules.specs.Base.{Bytes, if◌then◌else◌}
+use Rattle.std.specs.Prelude.{ℕ, ◌≡◌, ◌++◌, leb, eqb, length, drop, if◌then◌else◌}
+use Rattle.rules.specs.Base.{Bytes}
 use Rattle.rules.specs.Refusals.{refusal}
 use Rattle.rules.specs.Response.{response}
 use Rattle.rules.specs.InterchangeAcknowledgment.{interchange_refusal, interchange_response}

@@ -1,5 +1,5 @@
 -- The words that document 01 is written down in: bytes, tests, lists, and rules with their numbers.
-use Rattle.std.specs.Prelude.{ℕ, Bool, true, false, ◌&&◌, ◌||◌, List, [], ◌∷◌, leb, eqb}
+use Rattle.std.specs.Prelude.{ℕ, Bool, true, false, ◌&&◌, ◌||◌, List, [], ◌∷◌, leb, eqb, cond}
 use Prim.Native.String.{String}
 use Prim.Native.Char.{code}
 use Rattle.std.proofs.Math.Option.{Option, none, some}
@@ -11,11 +11,6 @@ Bytes = List ℕ
 abbrev pub ascii : String → Bytes
 ascii String.[] = []
 ascii (String.◌∷◌ c s) = code c ∷ ascii s
-
-infix 15 if◌then◌else◌
-abbrev pub if◌then◌else◌ {ℓ} : {A : Type ℓ} → Bool → A → A → A
-if true then a else b = a
-if false then a else b = b
 
 -- n is one of lo to hi
 abbrev pub between : ℕ → ℕ → ℕ → Bool
@@ -53,11 +48,11 @@ module _ {ℓ} {A : Type ℓ} where
   any p [] = false
   any p (x ∷ xs) = p x || any p xs
 
-  -- Those that pass. A recursive call is bound before an `if`, here and below: both branches of an `if` are computed, and what a `let` binds
-  -- only where it is read. A call in both branches would double the work with every step.
+  -- Those that pass; `cond b x y` is `if b then x else y` at any level. A recursive call is bound before an `if`, here and below: both branches
+  -- of an `if` are computed, and what a `let` binds only where it is read. A call in both branches would double the work with every step.
   unfoldable pub keep : (A → Bool) → List A → List A
   keep p [] = []
-  keep p (x ∷ xs) = let r = keep p xs in if p x then x ∷ r else r
+  keep p (x ∷ xs) = let r = keep p xs in cond (p x) (x ∷ r) r
 
   -- x in front of the first list; a list of its own where there is none
   abbrev pub push : A → List (List A) → List (List A)

@@ -1,7 +1,7 @@
 -- "Cutting": segments and their elements, ISA by its places, the delimiters, and the valid bytes.
-use Rattle.std.specs.Prelude.{ℕ, ◌+◌, Bool, true, false, ◌&&◌, not, List, [], ◌∷◌, map, leb, eqb, length, get_or}
+use Rattle.std.specs.Prelude.{ℕ, ◌+◌, Bool, true, false, ◌&&◌, not, List, [], ◌∷◌, map, leb, eqb, length, get_or, if◌then◌else◌}
 use Rattle.std.proofs.Math.Seq.{slice}
-use Rattle.rules.specs.Base.{Bytes, between, same, all, any, push, if◌then◌else◌}
+use Rattle.rules.specs.Base.{Bytes, between, same, all, any, push}
 use Rattle.rules.specs.Numbers.{digits, value}
 use Rattle.rules.specs.declared.Delimiters.{Delimiters}
 use Rattle.rules.specs.declared.Repetition.{Repetition}

@@ -1,6 +1,6 @@
 -- "Notes on elements (AK4)": the findings of a segment by its entry.
-use Rattle.std.specs.Prelude.{ℕ, ◌+◌, Bool, true, false, ◌&&◌, ◌||◌, not, List, [], ◌∷◌, ◌++◌, map, ltb, eqb, length, take}
-use Rattle.rules.specs.Base.{Bytes, ◌⇒◌, first, every, null, all, any, between, is_digit, member, if◌then◌else◌}
+use Rattle.std.specs.Prelude.{ℕ, ◌+◌, Bool, true, false, ◌&&◌, ◌||◌, not, List, [], ◌∷◌, ◌++◌, map, ltb, eqb, length, take, if◌then◌else◌}
+use Rattle.rules.specs.Base.{Bytes, ◌⇒◌, first, every, null, all, any, between, is_digit, member}
 use Rattle.rules.specs.Cutting.{Segment, field, valid, separates_repetitions}
 use Rattle.rules.specs.Numbers.{is_date, is_time}
 use Rattle.rules.specs.Tables.{Row, Syntax, Entry}

@@ -1,7 +1,7 @@
 -- "Verdicts", the group: its parts, and what is reported of it (AK1 and AK9).
-use Rattle.std.specs.Prelude.{ℕ, Bool, ◌||◌, not, List, [], ◌∷◌, map, eqb, length, take, drop, get_or}
+use Rattle.std.specs.Prelude.{ℕ, Bool, ◌||◌, not, List, [], ◌∷◌, map, eqb, length, take, drop, get_or, if◌then◌else◌}
 use Rattle.std.proofs.Math.Option.{Option, none, some}
-use Rattle.rules.specs.Base.{Bytes, ◌⇒◌, every, null, is_none, holds, ascii, same, member, keep, push, front, last, if◌then◌else◌}
+use Rattle.rules.specs.Base.{Bytes, ◌⇒◌, every, null, is_none, holds, ascii, same, member, keep, push, front, last}
 use Rattle.rules.specs.Cutting.{Segment, field, is_named}
 use Rattle.rules.specs.Numbers.{declares}
 use Rattle.rules.specs.Tables.{Table, edition_table, set_table}

@@ -1,6 +1,6 @@
 -- Change request 3, TA1: the verdict on the interchange itself, the refusals, and the response.
-use Rattle.std.specs.Prelude.{ℕ, Bool, not, List, [], ◌∷◌, ◌++◌, eqb, length}
-use Rattle.rules.specs.Base.{Bytes, Rule, ◌⇒◌, first, last, ascii, same, if◌then◌else◌}
+use Rattle.std.specs.Prelude.{ℕ, Bool, not, List, [], ◌∷◌, ◌++◌, eqb, length, if◌then◌else◌}
+use Rattle.rules.specs.Base.{Bytes, Rule, ◌⇒◌, first, last, ascii, same}
 use Rattle.rules.specs.Cutting.{Segment, field, delimiters, isa, segments}
 use Rattle.rules.specs.Numbers.{padded}
 use Rattle.rules.specs.Groups.{groups_of}

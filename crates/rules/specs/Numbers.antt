@@ -1,7 +1,7 @@
 -- Digits and numbers, the declared counts, and the rules DT and TM.
-use Rattle.std.specs.Prelude.{ℕ, zero, suc, ◌+◌, ◌-◌, ◌*◌, ◌/◌, ◌%◌, Bool, ◌&&◌, ◌||◌, not, [], ◌∷◌, ◌++◌, leb, ltb, eqb, length, take, drop}
+use Rattle.std.specs.Prelude.{ℕ, zero, suc, ◌+◌, ◌-◌, ◌*◌, ◌/◌, ◌%◌, Bool, ◌&&◌, ◌||◌, not, [], ◌∷◌, ◌++◌, leb, ltb, eqb, length, take, drop, if◌then◌else◌}
 use Rattle.std.proofs.Math.Option.{Option, none, some}
-use Rattle.rules.specs.Base.{Bytes, ◌⇒◌, first, if◌then◌else◌, between, is_digit, all, any, holds}
+use Rattle.rules.specs.Base.{Bytes, ◌⇒◌, first, between, is_digit, all, any, holds}
 
 -- lo to hi digits and nothing else
 unfoldable pub digits : ℕ → ℕ → Bytes → Bool

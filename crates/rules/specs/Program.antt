@@ -1,8 +1,8 @@
 -- "One exchange whole": what a program prints for its input, a first line with the caller's numbers and then the interchange.
-use Rattle.std.specs.Prelude.{ℕ, Bool, ◌&&◌, [], ◌∷◌, ◌++◌, eqb, take, drop, get_or}
+use Rattle.std.specs.Prelude.{ℕ, Bool, ◌&&◌, [], ◌∷◌, ◌++◌, eqb, take, drop, get_or, if◌then◌else◌}
 use Rattle.std.proofs.Math.Option.{Option, none, some}
 use Rattle.std.proofs.Math.Seq.{slice}
-use Rattle.rules.specs.Base.{Bytes, ascii, if◌then◌else◌}
+use Rattle.rules.specs.Base.{Bytes, ascii}
 use Rattle.rules.specs.Numbers.{digits, value, decimal}
 use Rattle.rules.specs.Answers.{Reply, Replies, functional_acknowledgment, interchange_acknowledgment, answer}
 use Rattle.rules.specs.declared.Call.{Call}

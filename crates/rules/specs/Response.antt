@@ -1,6 +1,6 @@
 -- "The response": the segments of each 997 as a function of its group's report, the envelope around them, and their bytes.
-use Rattle.std.specs.Prelude.{ℕ, ◌+◌, List, [], ◌∷◌, ◌++◌, map, eqb, length}
-use Rattle.rules.specs.Base.{Bytes, ascii, null, if◌then◌else◌}
+use Rattle.std.specs.Prelude.{ℕ, ◌+◌, List, [], ◌∷◌, ◌++◌, map, eqb, length, if◌then◌else◌}
+use Rattle.rules.specs.Base.{Bytes, ascii, null}
 use Rattle.rules.specs.Cutting.{Segment, field, delimiters, isa, segments}
 use Rattle.rules.specs.Numbers.{padded, decimal}
 use Rattle.rules.specs.Elements.{Finding}

@@ -1,8 +1,8 @@
 -- "Notes on segments (AK3)": the walk of a set through its table.
-use Rattle.std.specs.Prelude.{ℕ, ◌+◌, Bool, ◌&&◌, not, List, [], ◌∷◌, ◌++◌, map, ltb, eqb, length, get_or}
+use Rattle.std.specs.Prelude.{ℕ, ◌+◌, Bool, ◌&&◌, not, List, [], ◌∷◌, ◌++◌, map, ltb, eqb, length, get_or, if◌then◌else◌}
 use Rattle.std.proofs.Math.Option.{Option, none, some}
 use Rattle.std.proofs.Math.Seq.{slice}
-use Rattle.rules.specs.Base.{Bytes, ◌⇒◌, every, null, all, between, is_upper_or_digit, ascii, same, member, keep, if◌then◌else◌}
+use Rattle.rules.specs.Base.{Bytes, ◌⇒◌, every, null, all, between, is_upper_or_digit, ascii, same, member, keep}
 use Rattle.rules.specs.Cutting.{Segment, field}
 use Rattle.rules.specs.Tables.{Entry, Table, entry, O}
 use Rattle.rules.specs.Elements.{Finding, findings}

@@ -1,7 +1,7 @@
 -- "Verdicts", the sets: their cutting, and what is reported of each (AK2 to AK5).
-use Rattle.std.specs.Prelude.{ℕ, Bool, false, ◌||◌, not, List, [], ◌∷◌, ◌++◌, length}
+use Rattle.std.specs.Prelude.{ℕ, Bool, false, ◌||◌, not, List, [], ◌∷◌, ◌++◌, length, if◌then◌else◌}
 use Rattle.std.proofs.Math.Option.{Option, none, some}
-use Rattle.rules.specs.Base.{Bytes, ◌⇒◌, every, null, is_none, holds, listed, ascii, same, member, if◌then◌else◌}
+use Rattle.rules.specs.Base.{Bytes, ◌⇒◌, every, null, is_none, holds, listed, ascii, same, member}
 use Rattle.rules.specs.Cutting.{Segment, field, is_named}
 use Rattle.rules.specs.Numbers.{count_in, declares}
 use Rattle.rules.specs.Tables.{Table}

@@ -1,7 +1,7 @@
 -- "Tables": what a table is, and the two tables of document 01.
-use Rattle.std.specs.Prelude.{ℕ, Bool, true, false, List, [], ◌∷◌}
+use Rattle.std.specs.Prelude.{ℕ, Bool, true, false, List, [], ◌∷◌, if◌then◌else◌}
 use Rattle.std.proofs.Math.Option.{Option, none, some}
-use Rattle.rules.specs.Base.{Bytes, ascii, same, if◌then◌else◌}
+use Rattle.rules.specs.Base.{Bytes, ascii, same}
 use Rattle.rules.specs.declared.Kind.{Kind}
 use Rattle.rules.specs.declared.Kind.TheVariants.{AN, ID, N0, DT}
 use Rattle.rules.specs.declared.Relation.{Relation}

@@ -1,4 +1,5 @@
 -- Where a search from a cursor ends: no byte passed is the one looked for, that one stands at the end, and the rest begins one past it.
+use Rattle.std.specs.Prelude.{if◌then◌else◌}
 use mathlib.Core.Path.{◌≡◌, refl, sym, ap, ◌∙◌}
 use mathlib.Core.Bool.{Bool, true, false}
 use mathlib.Core.List.{[], ◌∷◌, ◌++◌}
@@ -9,7 +10,7 @@ use borrow.Author.Tests.{eqb-true}
 use lib.Dec.{eqb}
 use lib.ListN.{length, get_or, take, drop, length-drop, take-append-drop}
 use lib.Seq.{drop-drop, get_or-drop, take_all, take-suc}
-use Rattle.rules.specs.Base.{Bytes, all, if◌then◌else◌}
+use Rattle.rules.specs.Base.{Bytes, all}
 use Rattle.rules.specs.Damage.{free}
 use Rattle.text.specs.Text.{index_of, index_where}
 use Rattle.text.proofs.Loops.{left_cons}

@@ -1,4 +1,5 @@
 -- The fields of a segment at a cursor: what a walk that goes through the elements once needs at each turn.
+use Rattle.std.specs.Prelude.{if◌then◌else◌}
 use mathlib.Core.Path.{◌≡◌, refl, sym, ap, ◌∙◌}
 use mathlib.Core.Bool.{Bool, true, false, ◌&&◌, not, false≢true}
 use mathlib.Core.List.{[], ◌∷◌}
@@ -9,7 +10,7 @@ use borrow.Author.Tests.{eq-eqb, ne_eqb, eqb-true, eqb-false, lt-ltb, le-ltb, lt
 use lib.Dec.{eqb, ltb}
 use lib.ListN.{length, get_or, take, drop, length-drop, drop_of_length-le, get_or-eq_default}
 use lib.Seq.{drop-drop, get_or-drop, take-nil}
-use Rattle.rules.specs.Base.{Bytes, same, null, push, if◌then◌else◌}
+use Rattle.rules.specs.Base.{Bytes, same, null, push}
 use Rattle.rules.specs.Cutting.{Segment, split, field, is_named}
 use Rattle.rules.proofs.Cuts.{split_step, split_end, split_some}
 use Rattle.text.specs.Text.{index_of}

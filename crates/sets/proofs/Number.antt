@@ -1,4 +1,5 @@
 -- How many sets a group can have: each header that can be answered takes twelve bytes with its terminator.
+use Rattle.std.specs.Prelude.{if◌then◌else◌}
 use mathlib.Core.Path.{◌≡◌, refl, ap}
 use mathlib.Core.Bool.{Bool, true, false, ◌&&◌}
 use mathlib.Core.List.{List, [], ◌∷◌, map}
@@ -7,7 +8,7 @@ use native.Mathlib.Nat.{not-suc-le-zero}
 use native.Mathlib.Omega.{arith}
 use lib.Dec.{eqb}
 use lib.ListN.{length}
-use Rattle.rules.specs.Base.{Bytes, ascii, between, all, if◌then◌else◌}
+use Rattle.rules.specs.Base.{Bytes, ascii, between, all}
 use Rattle.rules.specs.Cutting.{Segment, field, cut_at, split, pieces, segments, valid, text}
 use Rattle.rules.specs.Numbers.{digits}
 use Rattle.rules.specs.Sets.{Set, is_st, body_of, trailer_of, sets_of}

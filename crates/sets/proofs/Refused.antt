@@ -1,4 +1,5 @@
 -- Refusals 11 to 13, set by set: what a walk over the sets knows of them so far, and what is left to decide.
+use Rattle.std.specs.Prelude.{if◌then◌else◌}
 use mathlib.Core.Path.{◌≡◌, refl, sym, ◌∙◌, subst}
 use mathlib.Core.Bool.{Bool, true, false, ◌&&◌, not}
 use mathlib.Core.List.{List, [], ◌∷◌}
@@ -7,7 +8,7 @@ use native.Mathlib.Omega.{arith}
 use borrow.Author.Tests.{not-true, not-false, eqb-true, eqb-false}
 use lib.Dec.{eqb}
 use lib.ListN.{length, drop}
-use Rattle.rules.specs.Base.{Bytes, ◌⇒◌, first, null, all, if◌then◌else◌}
+use Rattle.rules.specs.Base.{Bytes, ◌⇒◌, first, null, all}
 use Rattle.rules.specs.Cutting.{Segment, split}
 use Rattle.rules.specs.Sets.{Set, is_st, sets_of, outside}
 use Rattle.rules.specs.Refusals.{is_envelope, good_st, set_rules}

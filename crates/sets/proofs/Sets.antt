@@ -1,4 +1,5 @@
 -- The set at a place of a group's bytes: it is the first of those left there, and the others are those left at its end.
+use Rattle.std.specs.Prelude.{if◌then◌else◌}
 use mathlib.Core.Path.{◌≡◌, refl, sym, ap, ◌∙◌, subst⁻¹}
 use mathlib.Core.Bool.{Bool, true, false, not}
 use mathlib.Core.List.{List, ◌∷◌, ◌++◌, append-nil, append_assoc}
@@ -8,7 +9,7 @@ use native.Mathlib.Omega.{arith}
 use borrow.Author.Tests.{ltb-true, ltb-false, not-false}
 use lib.Dec.{ltb}
 use lib.ListN.{length, take, drop}
-use Rattle.rules.specs.Base.{Bytes, is_none, listed, if◌then◌else◌}
+use Rattle.rules.specs.Base.{Bytes, is_none, listed}
 use Rattle.rules.specs.Cutting.{Segment, split, pieces, segments}
 use Rattle.rules.specs.Sets.{Set, is_st, is_se, body_of, trailer_of, sets_of, outside, inside, segments_of, control_of}
 use Rattle.rules.specs.declared.Delimiters.{Delimiters}

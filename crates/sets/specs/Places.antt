@@ -1,7 +1,7 @@
 -- Where the sets of a group stand in its bytes: the header, the trailer and the end of the set that starts at a place, and its ST02; and what
 -- refusals 11 to 13 make of the sets from a place on.
-use Rattle.std.specs.Prelude.{ℕ, ◌+◌, ◌≤◌, ◌≡◌, Bool, true, false, List, [], ◌∷◌, map, eqb, length, drop, get_or}
-use Rattle.rules.specs.Base.{Bytes, first, if◌then◌else◌}
+use Rattle.std.specs.Prelude.{ℕ, ◌+◌, ◌≤◌, ◌≡◌, Bool, true, false, List, [], ◌∷◌, map, eqb, length, drop, get_or, if◌then◌else◌}
+use Rattle.rules.specs.Base.{Bytes, first}
 use Rattle.rules.specs.Cutting.{Segment, field, split, pieces, segments}
 use Rattle.rules.specs.Sets.{is_st, is_se, sets_of, outside, inside}
 use Rattle.rules.specs.Refusals.{set_rules}

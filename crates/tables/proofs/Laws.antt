@@ -1,4 +1,5 @@
 -- A guide at a cursor: what stands at row k and what is left from the next row on.
+use Rattle.std.specs.Prelude.{if◌then◌else◌}
 use Prim.Native.Nat.{ℕ, zero, suc, ◌+◌, ◌%◌, ◌<◌, ◌≤◌, suc-le-suc}
 use mathlib.Core.Path.{◌≡◌, refl, sym, ap, ◌∙◌}
 use mathlib.Core.Bool.{Bool, true, false, ◌||◌, not}
@@ -10,7 +11,7 @@ use borrow.Author.Tests.{ne_eqb, eqb-true, ltb-true, ltb-false}
 use lib.Dec.{ltb, lit<}
 use lib.ListN.{length, get_or, take, drop, drop_of_length-le}
 use lib.Seq.{drop-cons, get_or-drop, get_or-take}
-use Rattle.rules.specs.Base.{Bytes, same, null, all, any, member, if◌then◌else◌}
+use Rattle.rules.specs.Base.{Bytes, same, null, all, any, member}
 use Rattle.tables.specs.Rows.{column, is_row, filled, codes_in, rows_in, syntax_in}
 use Rattle.rules.proofs.Logic.{and_left, and_right, all_at}
 use Rattle.text.proofs.Search.{find_le}

@@ -1,4 +1,5 @@
 -- Numbers that spell bytes: those before the first 0, at a cursor.
+use Rattle.std.specs.Prelude.{if◌then◌else◌}
 use Prim.Native.Nat.{ℕ, zero, suc, ◌+◌, ◌<◌, ◌≤◌}
 use mathlib.Core.Path.{◌≡◌, refl, sym, ap}
 use mathlib.Core.Bool.{Bool, true, false, ◌&&◌, ◌||◌}
@@ -8,7 +9,7 @@ use borrow.Author.Tests.{eq-eqb, ne_eqb, eqb-true, eqb-false}
 use lib.Dec.{eqb}
 use lib.ListN.{length, get_or, take, drop, drop_of_length-le}
 use lib.Seq.{drop-cons}
-use Rattle.rules.specs.Base.{Bytes, same, any, member, if◌then◌else◌}
+use Rattle.rules.specs.Base.{Bytes, same, any, member}
 use Rattle.tables.specs.Rows.{filled, ids_in}
 use Rattle.text.specs.Text.{index_of, index_where}
 use Rattle.text.proofs.Loops.{left_cons}

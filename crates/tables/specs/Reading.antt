@@ -1,6 +1,6 @@
 -- Reading a guide, a table as rows of six numbers, at a cursor: k is the index of a row.
-use Rattle.std.specs.Prelude.{ℕ, ◌+◌, ◌%◌, ◌≤◌, ◌≡◌, Bool, true, ◌&&◌, ◌||◌, not, List, [], ◌∷◌, eqb, ltb, leb, length, get_or, take, drop}
-use Rattle.rules.specs.Base.{Bytes, same, null, all, any, between, member, if◌then◌else◌}
+use Rattle.std.specs.Prelude.{ℕ, ◌+◌, ◌%◌, ◌≤◌, ◌≡◌, Bool, true, ◌&&◌, ◌||◌, not, List, [], ◌∷◌, eqb, ltb, leb, length, get_or, take, drop, if◌then◌else◌}
+use Rattle.rules.specs.Base.{Bytes, same, null, all, any, between, member}
 use Rattle.rules.specs.Tables.{Row, Syntax, Entry}
 use Rattle.tables.specs.Rows.{column, is_row, filled, codes_in, row_is, note_is, rows_in, syntax_in, entry_is, ids_in}
 use Rattle.text.specs.Text.{next_where, index_of}

@@ -3,8 +3,8 @@
 --    2  its element:    reference number, 1 where it is mandatory, type (0 AN, 1 ID, 2 N0, 3 DT, 4 TM), shortest, longest
 --    3  the element's code value: its bytes, five at most, then 0
 --    4  a syntax note:  relation (0 P, 1 R, 2 E, 3 C, 4 L), and its places, four at most, then 0
-use Rattle.std.specs.Prelude.{ℕ, Bool, List, [], ◌∷◌, eqb, take, drop, get_or}
-use Rattle.rules.specs.Base.{Bytes, if◌then◌else◌}
+use Rattle.std.specs.Prelude.{ℕ, Bool, List, [], ◌∷◌, eqb, take, drop, get_or, if◌then◌else◌}
+use Rattle.rules.specs.Base.{Bytes}
 use Rattle.rules.specs.Tables.{Row, Syntax, Entry, Table}
 use Rattle.rules.specs.declared.Kind.{Kind}
 use Rattle.rules.specs.declared.Kind.TheVariants.{AN, ID, N0, DT, TM}

@@ -1,4 +1,5 @@
 -- Digits and the number that they stand for.
+use Rattle.std.specs.Prelude.{if◌then◌else◌}
 use Prim.Native.Nat.{ℕ, suc, ◌+◌, ◌-◌, ◌*◌, ◌^◌, ◌<◌, ◌≤◌, min}
 use mathlib.Core.Path.{◌≡◌, refl}
 use mathlib.Core.Bool.{Bool, true, false, ◌&&◌}
@@ -10,7 +11,7 @@ use native.Mathlib.Omega.{arith}
 use borrow.Author.Tests.{leb-true, le-leb}
 use lib.Dec.{leb, lit<}
 use lib.ListN.{length, get_or, drop, drop_of_length-le}
-use Rattle.rules.specs.Base.{Bytes, between, is_digit, all, if◌then◌else◌}
+use Rattle.rules.specs.Base.{Bytes, between, is_digit, all}
 use Rattle.rules.specs.Numbers.{digits, value_from, value, count_in}
 use Rattle.rules.specs.Groups.{or_else}
 use Rattle.rules.proofs.Logic.{and_left, and_right, all_head, all_tail}

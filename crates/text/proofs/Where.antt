@@ -1,4 +1,5 @@
 -- The search for what passes a test: one turn of it, and where it ends.
+use Rattle.std.specs.Prelude.{if◌then◌else◌}
 use Prim.Native.Nat.{ℕ, suc, ◌+◌, ◌<◌, ◌≤◌, suc-le-suc}
 use mathlib.Core.Path.{◌≡◌}
 use mathlib.Core.Bool.{Bool, true, false}
@@ -8,7 +9,6 @@ use native.Mathlib.Numerals.{add-one}
 use native.Mathlib.Omega.{arith}
 use lib.ListN.{length, get_or, drop, drop_of_length-le, length-drop}
 use lib.Seq.{drop-cons}
-use Rattle.rules.specs.Base.{if◌then◌else◌}
 use Rattle.text.specs.Text.{index_where, next_where}
 
 module _ {A : Type 0} (p : A → Bool) (xs : List A) (d : A) (k : ℕ) where

@@ -1,7 +1,7 @@
 -- What the leaves on bytes answer where document 01 has no definition of it.
-use Rattle.std.specs.Prelude.{ℕ, suc, ◌+◌, ◌-◌, Bool, List, [], ◌∷◌, eqb, take, drop}
+use Rattle.std.specs.Prelude.{ℕ, suc, ◌+◌, ◌-◌, Bool, List, [], ◌∷◌, eqb, take, drop, if◌then◌else◌}
 use Rattle.std.proofs.Math.Option.{Option, none, some}
-use Rattle.rules.specs.Base.{Bytes, if◌then◌else◌}
+use Rattle.rules.specs.Base.{Bytes}
 use Rattle.rules.specs.Numbers.{digits, value}
 use Rattle.text.specs.declared.Count.{Count}
 use Rattle.text.specs.declared.Count.TheVariants.{Of, Nothing}

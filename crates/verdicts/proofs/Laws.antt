@@ -1,4 +1,5 @@
 -- The codes of a set and of a group are those of document 01.
+use Rattle.std.specs.Prelude.{if◌then◌else◌}
 use Prim.Native.Nat.{ℕ}
 use mathlib.Core.Path.{◌≡◌, refl, sym}
 use mathlib.Core.Bool.{Bool, true, false, ◌||◌, not, true≢false, not-not}
@@ -6,7 +7,7 @@ use mathlib.Core.List.{List, [], ◌∷◌}
 use mathlib.Core.Option.{Option, none, some}
 use lib.Dec.{lit≤, eqb}
 use lib.ListN.{length, get_or}
-use Rattle.rules.specs.Base.{Bytes, null, is_none, ascii, same, member, if◌then◌else◌}
+use Rattle.rules.specs.Base.{Bytes, null, is_none, ascii, same, member}
 use Rattle.rules.specs.Cutting.{Segment}
 use Rattle.rules.specs.Tables.{Table}
 use Rattle.rules.specs.Segments.{Note}

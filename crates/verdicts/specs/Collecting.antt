@@ -1,6 +1,6 @@
 -- Codes as a value, and how they are collected from a row of rules.
-use Rattle.std.specs.Prelude.{ℕ, ◌+◌, Bool, ◌&&◌, List, [], ◌∷◌, ltb, take, set}
-use Rattle.rules.specs.Base.{Rule, ◌⇒◌, if◌then◌else◌}
+use Rattle.std.specs.Prelude.{ℕ, ◌+◌, Bool, ◌&&◌, List, [], ◌∷◌, ltb, take, set, if◌then◌else◌}
+use Rattle.rules.specs.Base.{Rule, ◌⇒◌}
 use Rattle.verdicts.specs.declared.Codes.{Codes}
 
 -- the codes that a value stands for

@@ -1,7 +1,7 @@
 -- What a set's codes and a group's summary are decided by: trailers, and the rules of both.
-use Rattle.std.specs.Prelude.{ℕ, Bool, true, false, not, List, [], ◌∷◌, map, get_or}
+use Rattle.std.specs.Prelude.{ℕ, Bool, true, false, not, List, [], ◌∷◌, map, get_or, if◌then◌else◌}
 use Rattle.std.proofs.Math.Option.{Option, none, some}
-use Rattle.rules.specs.Base.{Bytes, Rule, ◌⇒◌, is_none, holds, ascii, same, if◌then◌else◌}
+use Rattle.rules.specs.Base.{Bytes, Rule, ◌⇒◌, is_none, holds, ascii, same}
 use Rattle.rules.specs.Cutting.{Segment, field}
 use Rattle.rules.specs.Numbers.{declares, decimal}
 use Rattle.rules.specs.Sets.{declared_in}

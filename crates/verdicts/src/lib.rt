@@ -1,7 +1,7 @@
 #![tactic(auto)]
 // The verdicts: the codes of a set (AK5), and the summary of a group (AK9).
-ghost use Rattle.std.specs.Prelude.{◌≡◌, ◌&&◌, [], ◌∷◌, ◌+◌, min, drop};
-ghost use Rattle.rules.specs.Base.{ascii, same, null, if◌then◌else◌};
+ghost use Rattle.std.specs.Prelude.{◌≡◌, ◌&&◌, [], ◌∷◌, ◌+◌, min, drop, if◌then◌else◌};
+ghost use Rattle.rules.specs.Base.{ascii, same, null};
 ghost use Rattle.rules.specs.Cutting as cutting;
 ghost use Rattle.rules.specs.Cutting.{split};
 ghost use Rattle.rules.specs.Numbers.{declares};

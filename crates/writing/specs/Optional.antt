@@ -1,6 +1,6 @@
 -- The text of a number that may be left out.
-use Rattle.std.specs.Prelude.{ℕ, [], eqb}
-use Rattle.rules.specs.Base.{Bytes, if◌then◌else◌}
+use Rattle.std.specs.Prelude.{ℕ, [], eqb, if◌then◌else◌}
+use Rattle.rules.specs.Base.{Bytes}
 use Rattle.rules.specs.Numbers.{decimal}
 
 -- nothing for 0

@@ -1,9 +1,9 @@
 -- `findings::stands` meets its contract.
+use Rattle.std.specs.Prelude.{if◌then◌else◌}
 use mathlib.Core.Path.{◌≡◌}
 use lib.Dec.{ltb}
 use lib.ListN.{length}
 use borrow.Author.Tests.{lt-ltb, le-ltb}
-use Rattle.rules.specs.Base.{if◌then◌else◌}
 use Rattle.findings.specs.Steps as steps
 use Rattle.findings.specs.declared.Standing.TheVariants.{Unlisted}
 use Rattle.findings.proofs.stands.Goals as goal

@@ -1,10 +1,11 @@
 -- `tables::next_due` meets its contract.
+use Rattle.std.specs.Prelude.{if◌then◌else◌}
 use Prim.Native.Nat.{ℕ}
 use mathlib.Core.Path.{◌≡◌, sym, ◌∙◌}
 use mathlib.Core.Bool.{Bool, true, false}
 use mathlib.Core.List.{[]}
 use lib.ListN.{get_or, get_or-eq_default}
-use Rattle.rules.specs.Base.{Bytes, if◌then◌else◌}
+use Rattle.rules.specs.Base.{Bytes}
 use Rattle.text.specs.Text.{next_where}
 use Rattle.tables.specs.Reading.{Guide, is_entry_row, next_due}
 use Rattle.tables.specs.declared.Due.TheVariants.{Row, Nothing}
