@@ -28,7 +28,7 @@ const ROWS: [[u16; 6]; 17] = [
     [ELEMENT, 329, M, AN, 4, 9],
 ];
 
-// For C: the notes of a set with a trailer, from the start of what is lent, as far as they fit; their full length is returned.
+// For C, by other_table_c: the notes of a set with a trailer, from the start of what is lent, as far as they fit; their full length is returned.
 #[unsafe(no_mangle)]
 pub extern "C" fn x12_other_table_notes(set: &[u8], out: &mut [u8]) -> usize
     ensures { Wrote (notes_text set.now) result out.old out.new }

@@ -1,5 +1,5 @@
 #![tactic(auto)]
-// The entries for C, in one archive: the number of an answer is returned and its length stored.
+// The entries for C, which x12_c exports: the number of an answer is returned and its length stored.
 ghost use Rattle.std.specs.Prelude.{◌≡◌};
 ghost use Rattle.rules.specs.Answers as law;
 ghost use Rattle.rules.specs.Answers.{functional_acknowledgment, interchange_acknowledgment, called};
