@@ -213,8 +213,8 @@ header_parts d g e =
     let gs05 = is_time (field gs 5) in
     let gs06 = digits 1 9 (field gs 6) in
     let gs07 = text d 1 2 (field gs 7) in
-    let up_to_lem = before && gs04 && gs05 && gs06 in
-    let e6 = and_left up_to_lem gs07 (and_left (up_to_lem && gs07) (text d 1 12 (field gs 8)) good) in
+    let up_to = before && gs04 && gs05 && gs06 in
+    let e6 = and_left up_to gs07 (and_left (up_to && gs07) (text d 1 12 (field gs 8)) good) in
     (and_right before gs04 (and_left (before && gs04) gs05 (and_left (before && gs04 && gs05) gs06 e6)), and_right (before && gs04 && gs05) gs06 e6)
 
 group_filled : (d : Delimiters) (g : Group) → first (group_rules d g) ≡ 0 → Filled (group_report d g)
