@@ -201,7 +201,7 @@ module _ {d : Delimiters} {table : Set → Option Table} {body : Bytes} {first :
       let i = seeing_set h refl in
       let room = seeing_room i in
       let earlier = controls_at d body (take k starts) in
-      let marks-here = seeing_marked h e f in
+      let marks_here = seeing_marked h e f in
       let next = remaining_next d table body (take k starts) at i in
       let more : take (k + 1) (set starts k at) ≡ take k starts ++ at ∷ [] = rw add-one (take-suc-set starts k at room.1.0) in
       let marked : take (k + 1) (set marks k m) ≡ take k marks ++ m ∷ [] = rw add-one (take-suc-set marks k m room.1.1) in
@@ -211,10 +211,10 @@ module _ {d : Delimiters} {table : Set → Option Table} {body : Bytes} {first :
         received = omega (arith, ap length i.first, s.received);
         allowed =
             rw (e.stored, more, g)
-            (accepted_next (report_at d table body at earlier) onward a (eqb m 0) (mark_accepts d (table (set_here d body at)) (set_here d body at) earlier marks-here) ∙ (rw next at s.allowed));
+            (accepted_next (report_at d table body at earlier) onward a (eqb m 0) (mark_accepts d (table (set_here d body at)) (set_here d body at) earlier marks_here) ∙ (rw next at s.allowed));
         clean = sym i.strays ∙ s.clean;
         headers = all_tail (λ x. good_st d x.header) _ _ (rw i.first at s.headers);
-        seen = rw e.stored (below_more _ k (seen_stays m) (seen_here m room.1 h marks-here));
+        seen = rw e.stored (below_more _ k (seen_stays m) (seen_here m room.1 h marks_here));
         entered = e.entered;
         few = s.few;
         among = rw g (either (λ (x : ℕ). x ≤ k + 1) (eqb m 0) (omega (arith, s.among)) (omega (arith, s.among)));

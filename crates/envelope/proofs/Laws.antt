@@ -11,7 +11,7 @@ use lib.Dec.{ltb, leb}
 use lib.ListN.{length, drop, get_or, length-take}
 use Rattle.rules.specs.Base.{Bytes, ascii, same, null, all, front, last, listed}
 use Rattle.rules.specs.Cutting.{Segment, field, is_named, pieces, split, segments}
-use Rattle.rules.specs.Groups.{Group, cut_after_ge, groups_of, is_g_e}
+use Rattle.rules.specs.Groups.{Group, cut_after_ge, groups_of, is_ge}
 use Rattle.rules.specs.Refusals.{is_envelope, enveloped}
 use Rattle.rules.specs.declared.Delimiters.{Delimiters}
 use Rattle.rules.proofs.Logic.{all_append, same→eq, last_snoc}
@@ -132,14 +132,14 @@ module _ (d : Delimiters) (i : Bytes) (start : ℕ) where
 -- 3. GE or nothing, and what follows.
 record Trailed (d : Delimiters) (i : Bytes) (at : ℕ) (t : Trailer) : Type 0 where
   cut : segments d (drop at i) ≡ listed (trailer_in d i at t.end t.closed) ++ segments d (drop t.next i)
-  named : Optional is_g_e (trailer_in d i at t.end t.closed)
+  named : Optional is_ge (trailer_in d i at t.end t.closed)
   onward : at ≤ t.next
 
 trailed : (d : Delimiters) (i : Bytes) (at : ℕ) → Trailed d i at (trailer_at d i at)
 unfolding segment_at same
-trailed d i at = go (is_g_e (segment_at d i at)) refl
+trailed d i at = go (is_ge (segment_at d i at)) refl
   where
-    go : (c : Bool) → is_g_e (segment_at d i at) ≡ c → Trailed d i at (trailer_at d i at)
+    go : (c : Bool) → is_ge (segment_at d i at) ≡ c → Trailed d i at (trailer_at d i at)
     go true g =
         let within = named_within (ascii "GE") d.element i at (end_of d i at) refl g in
         rw (trailer_there d i at (end_of d i at) refl g)
@@ -153,11 +153,11 @@ trailed d i at = go (is_g_e (segment_at d i at)) refl
         (record { cut = refl; named = missing; onward = omega arith })
 
 -- without GE nothing was passed
-untrailed : (d : Delimiters) (i : Bytes) (at : ℕ) → (trailer_at d i at).closed ≡ false → ((trailer_at d i at).next ≡ at) × (is_g_e (segment_at d i at) ≡ false)
+untrailed : (d : Delimiters) (i : Bytes) (at : ℕ) → (trailer_at d i at).closed ≡ false → ((trailer_at d i at).next ≡ at) × (is_ge (segment_at d i at) ≡ false)
 unfolding trailer_at
-untrailed d i at c = go (is_g_e (segment_at d i at)) refl
+untrailed d i at c = go (is_ge (segment_at d i at)) refl
   where
-    go : (b : Bool) → is_g_e (segment_at d i at) ≡ b → ((trailer_at d i at).next ≡ at) × (is_g_e (segment_at d i at) ≡ false)
+    go : (b : Bool) → is_ge (segment_at d i at) ≡ b → ((trailer_at d i at).next ≡ at) × (is_ge (segment_at d i at) ≡ false)
     go true q = absurd (true≢false (rw q at c))
     go false q = (rw q, q)
 
@@ -171,16 +171,16 @@ pub record GroupFound (d : Delimiters) (i : Bytes) (at : ℕ) (g : GroupAt) : Ty
   pub body_before : g.body_end ≤ g.next
   pub named : is_gs (group_at d i g).header ≡ true
   pub inside : all is_outer (group_at d i g).body ≡ true
-  pub closes : Optional is_g_e (group_at d i g).trailer
+  pub closes : Optional is_ge (group_at d i g).trailer
   pub cut : segments d (drop at i)
       ≡ (group_at d i g).header ∷ ((group_at d i g).body ++ (listed (group_at d i g).trailer ++ segments d (drop g.next i)))
 
 -- a trailer that is there is GE
-ge_named : (d : Delimiters) (i : Bytes) (g : GroupAt) → Optional is_g_e (group_at d i g).trailer → g.closed ≡ true
-    → is_g_e (split d.element (part i g.body_end g.ge_end)) ≡ true
+ge_named : (d : Delimiters) (i : Bytes) (g : GroupAt) → Optional is_ge (group_at d i g).trailer → g.closed ≡ true
+    → is_ge (split d.element (part i g.body_end g.ge_end)) ≡ true
 ge_named d i g o q = named_one (rw q at o)
   where
-    named_one : {s : Segment} → Optional is_g_e (some s) → is_g_e s ≡ true
+    named_one : {s : Segment} → Optional is_ge (some s) → is_ge s ≡ true
     named_one (there e) = e
 
 -- an id is no longer than its segment
@@ -267,7 +267,7 @@ module _ (d : Delimiters) (i : Bytes) (at : ℕ) where
   -- after a group without GE comes another segment of the envelope, or none
   open_stops : {g : GroupAt} → next_group d i at ≡ Found g → g.closed ≡ false
       → (null (segments d (drop g.next i)) ≡ false → is_envelope (get_or (segments d (drop g.next i)) 0 []) ≡ true)
-      × (is_g_e (get_or (segments d (drop g.next i)) 0 []) ≡ false)
+      × (is_ge (get_or (segments d (drop g.next i)) 0 []) ≡ false)
   unfolding group_starting group_ending
   open_stops {g} p c =
       let f = found_by p in

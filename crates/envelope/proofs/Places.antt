@@ -17,7 +17,7 @@ use Rattle.text.proofs.Loops.{and_false}
 use Rattle.text.proofs.Search.{find_end}
 use Rattle.segments.proofs.Fields.{named_other}
 use Rattle.segments.proofs.Pieces.{pieces_at, pieces_none}
-use Rattle.rules.specs.Groups.{is_g_e}
+use Rattle.rules.specs.Groups.{is_ge}
 use Rattle.rules.specs.declared.Delimiters.{Delimiters}
 use Rattle.envelope.specs.Places.{end_of, segment_at, is_envelope_name, until_envelope, trailer_at, group_ending, group_starting, body_end, next_group, group_after, groups_end, envelope_ending, envelope_of}
 use Rattle.envelope.specs.declared.GroupAt.{GroupAt}
@@ -68,11 +68,11 @@ until_none e t i at h = rw (pieces_none t i at h, add-zero)
 
 -- 3. The trailer, by what the searches gave.
 module _ (d : Delimiters) (i : Bytes) (at end : ℕ) (q : end ≡ end_of d i at) where
-  pub trailer_there : is_g_e (split d.element (part i at end)) ≡ true → trailer_at d i at ≡ record { end = end; closed = true; next = end + 1 }
+  pub trailer_there : is_ge (split d.element (part i at end)) ≡ true → trailer_at d i at ≡ record { end = end; closed = true; next = end + 1 }
   unfolding trailer_at segment_at
   trailer_there g = rw (← q, g)
 
-  pub trailer_missing : is_g_e (split d.element (part i at end)) ≡ false → trailer_at d i at ≡ record { end = at; closed = false; next = at }
+  pub trailer_missing : is_ge (split d.element (part i at end)) ≡ false → trailer_at d i at ≡ record { end = at; closed = false; next = at }
   unfolding trailer_at segment_at
   trailer_missing g = rw (← q, g)
 

@@ -10,7 +10,7 @@ use lib.Dec.{leb, leb-zero, leb-suc-zero, leb-suc-suc}
 use lib.ListN.{length, drop, get_or}
 use Rattle.rules.specs.Base.{Bytes, ascii, same, null, all, any, front, last, push}
 use Rattle.rules.specs.Cutting.{Segment, field, is_named}
-use Rattle.rules.specs.Groups.{Group, group_with, cut_after_ge, groups_of, is_g_e}
+use Rattle.rules.specs.Groups.{Group, group_with, cut_after_ge, groups_of, is_ge}
 use Rattle.rules.specs.Refusals.{is_envelope, is_whole_group, enveloped}
 use Rattle.rules.proofs.Logic.{same→eq, all_head, all_tail, all_cons, all_weaken, front_snoc, last_snoc, last_all}
 use Rattle.rules.proofs.SetLaws.{is_outer}
@@ -73,14 +73,14 @@ data FirstPiece (xs : List Segment) (y : Segment) : List (List Segment) → Type
 
 first_piece : (xs : List Segment) (y : Segment) (ys : List Segment) → all is_open xs ≡ true → FirstPiece xs y (cut_after_ge (xs ++ y ∷ ys))
 unfolding cut_after_ge
-first_piece [] y ys o = go (is_g_e y) (cut_after_ge ys)
+first_piece [] y ys o = go (is_ge y) (cut_after_ge ys)
   where
     go : (b : Bool) (r : List (List Segment)) → FirstPiece [] y (if b then (y ∷ []) ∷ r else push y r)
     go true r = piece [] r
     go false [] = piece [] []
     go false (p ∷ ps) = piece p ps
 first_piece (x ∷ xs) y ys o =
-    rw (not-true (is_g_e x) (all_head is_open x xs o)) (go (first_piece xs y ys (all_tail is_open x xs o)))
+    rw (not-true (is_ge x) (all_head is_open x xs o)) (go (first_piece xs y ys (all_tail is_open x xs o)))
   where
     go : {r : List (List Segment)} → FirstPiece xs y r → FirstPiece (x ∷ xs) y (push x r)
     go (piece p ps) = piece p ps
@@ -88,9 +88,9 @@ first_piece (x ∷ xs) y ys o =
 -- the group of a piece has its first segment as header
 header_of : (x : Segment) (xs : List Segment) → (group_with x xs).header ≡ x
 unfolding group_with
-header_of x xs = go (is_g_e (last [] xs)) refl
+header_of x xs = go (is_ge (last [] xs)) refl
   where
-    go : (b : Bool) → is_g_e (last [] xs) ≡ b → (group_with x xs).header ≡ x
+    go : (b : Bool) → is_ge (last [] xs) ≡ b → (group_with x xs).header ≡ x
     go true p = rw p
     go false p = rw p
 
@@ -121,7 +121,7 @@ module _ (gs : Segment) (xs : List Segment) (g : is_gs gs ≡ true) (o : all is_
   opens = all_cons is_open gs xs (gs_open gs g) (all_weaken is_outer is_open outer_open xs o)
 
   -- with its GE: it is one group, and those after it decide
-  module _ (ge : Segment) (e : is_g_e ge ≡ true) where
+  module _ (ge : Segment) (e : is_ge ge ≡ true) where
     pub closed_groups : (z : Segment) (zs : List Segment)
         → groups_from (gs ∷ (xs ++ ge ∷ (z ∷ zs))) ≡ record { header = gs; body = xs; trailer = some ge } ∷ groups_from (z ∷ zs)
     unfolding front
@@ -135,14 +135,14 @@ module _ (gs : Segment) (xs : List Segment) (g : is_gs gs ≡ true) (o : all is_
         rw (last_append gs xs ge (z ∷ zs), closed_groups z zs, leb-suc-suc (length (groups_from (z ∷ zs))) limit, g, o)
 
   -- without: IEA has to follow, alone
-  module _ (y : Segment) (env : is_envelope y ≡ true) (e : is_g_e y ≡ false) where
+  module _ (y : Segment) (env : is_envelope y ≡ true) (e : is_ge y ≡ false) where
     -- it stands in the piece, and is no segment of a group
     kept : (p : List Segment) → all is_outer (group_with gs (xs ++ y ∷ p)).body ≡ false
     unfolding group_with last front
     kept [] = rw (last_snoc [] xs y, e) (all_broken is_outer xs y [] (rw env))
-    kept (q ∷ qs) = go (is_g_e (last q qs)) refl
+    kept (q ∷ qs) = go (is_ge (last q qs)) refl
       where
-        go : (b : Bool) → is_g_e (last q qs) ≡ b → all is_outer (group_with gs (xs ++ y ∷ (q ∷ qs))).body ≡ false
+        go : (b : Bool) → is_ge (last q qs) ≡ b → all is_outer (group_with gs (xs ++ y ∷ (q ∷ qs))).body ≡ false
         go true p = rw (last_append [] xs y (q ∷ qs), p, front_append xs y (q ∷ qs)) (all_broken is_outer xs y (front (q ∷ qs)) (rw env))
         go false p = rw (last_append [] xs y (q ∷ qs), p) (all_broken is_outer xs y (q ∷ qs) (rw env))
 
@@ -154,7 +154,7 @@ module _ (gs : Segment) (xs : List Segment) (g : is_gs gs ≡ true) (o : all is_
   open_groups y =
       rw (front_snoc (gs ∷ xs) y, cut_open gs xs opens, group_open gs xs (all_weaken is_outer is_open outer_open xs o))
 
-  pub open_closes : (limit : ℕ) (ys : List Segment) → (null ys ≡ false → is_envelope (get_or ys 0 []) ≡ true) → is_g_e (get_or ys 0 []) ≡ false
+  pub open_closes : (limit : ℕ) (ys : List Segment) → (null ys ≡ false → is_envelope (get_or ys 0 []) ≡ true) → is_ge (get_or ys 0 []) ≡ false
       → closes (suc limit) (gs ∷ (xs ++ ys)) ≡ is_iea (get_or ys 0 []) && null (drop 1 ys)
   unfolding same all last front
   open_closes limit [] env e =

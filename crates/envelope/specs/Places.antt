@@ -3,7 +3,7 @@ use Rattle.std.specs.Prelude.{ℕ, zero, suc, ◌+◌, Bool, true, false, ◌&&�
 use Rattle.std.proofs.Math.Option.{Option, none, some}
 use Rattle.rules.specs.Base.{Bytes, ascii, member}
 use Rattle.rules.specs.Cutting.{Segment, is_named, pieces, split, segments}
-use Rattle.rules.specs.Groups.{Group, is_g_e}
+use Rattle.rules.specs.Groups.{Group, is_ge}
 use Rattle.rules.specs.Refusals.{is_envelope}
 use Rattle.rules.specs.declared.Delimiters.{Delimiters}
 use Rattle.text.specs.Text.{index_of, part}
@@ -35,7 +35,7 @@ until_envelope e (p ∷ ps) = let r = until_envelope e ps in if is_envelope (spl
 -- GE or nothing at an offset
 unfoldable pub trailer_at : Delimiters → Bytes → ℕ → Trailer
 trailer_at d i at =
-    if is_g_e (segment_at d i at) then record { end = end_of d i at; closed = true; next = end_of d i at + 1 }
+    if is_ge (segment_at d i at) then record { end = end_of d i at; closed = true; next = end_of d i at + 1 }
     else record { end = at; closed = false; next = at }
 
 -- where the segment after the one at an offset starts; past the end there is none, and the offset stays
@@ -44,13 +44,13 @@ start_after d i at = if ltb at (length i) then end_of d i at + 1 else at
 
 -- the group whose GS starts at an offset and whose body ends at another, with GE or nothing there
 unfoldable pub group_ending : Delimiters → Bytes → ℕ → ℕ → GroupAt
-group_ending d i at body-end =
-    let trailer = trailer_at d i body-end in
+group_ending d i at ends =
+    let trailer = trailer_at d i ends in
     record {
       gs = at;
       gs_end = end_of d i at;
       body = start_after d i at;
-      body_end = body-end;
+      body_end = ends;
       ge_end = trailer.end;
       closed = trailer.closed;
       next = trailer.next;

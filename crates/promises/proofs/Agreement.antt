@@ -255,8 +255,8 @@ module _ (i lent lent' : Bytes) (call call' : Call) (o o' : Outcome)
     tells : good_call call ≡ true → (verdict_in o'.buffer).ta104 ≡ ascii "R"
         → OfVerdict o.number × StandsFor i o.number (verdict_in o'.buffer)
     tells good r =
-        let opens-too = opening_again i call' call (asked_passes i call' clear').0 good in
-        rw read (told_of (rejected_stands i call opens-too (ap (λ (v : Verdict). v.ta104) (sym read) ∙ r)))
+        let opens_too = opening_again i call' call (asked_passes i call' clear').0 good in
+        rw read (told_of (rejected_stands i call opens_too (ap (λ (v : Verdict). v.ta104) (sym read) ∙ r)))
 
     same_opening : call' ≡ call → o.number ≡ 0 → take 106 o.buffer ≡ take 106 o'.buffer
     same_opening same e =

@@ -81,9 +81,9 @@ row_clear d notes s n r rs e =
 b1_dated : (d : Delimiters) (s : Segment) → null (field s 3) ≡ false → findings_from d [] s 1 b1_rows ≡ [] → is_date (field s 3) ≡ true
 unfolding b1_rows dt
 b1_dated d s f e =
-    let after-b101 = (row_clear d [] s 1 _ _ e).1 in
-    let after-b102 = (row_clear d [] s 2 _ _ after-b101).1 in
-    uncoded d (field s 3) f (row_clear d [] s 3 _ _ after-b102).0
+    let after_b101 = (row_clear d [] s 1 _ _ e).1 in
+    let after_b102 = (row_clear d [] s 2 _ _ after_b101).1 in
+    uncoded d (field s 3) f (row_clear d [] s 3 _ _ after_b102).0
 
 -- 3. In both tables the entry of B1 is the second, wherever a set has come to.
 by_second : (d : Delimiters) (t : Table) (p : Present) (s : Segment) → findings_by d t (compared p.index (some 1)) s ≡ findings d (entry_at t 1) s

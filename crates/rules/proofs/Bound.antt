@@ -16,7 +16,7 @@ use Rattle.rules.specs.Tables.{Row, Syntax, Entry, Table, edition_table, set_tab
 use Rattle.rules.specs.Elements.{element_code, place_codes, Finding, found, findings_from, findings}
 use Rattle.rules.specs.Segments.{Note, Present, Standing, unknown, unlisted, before, again, later, no_entry, entry_at, standing, own_code, moved, findings_by, skipped, missing, echoed, noted, segment_note, walk, notes_of}
 use Rattle.rules.specs.Sets.{Set, is_st, is_se, body_of, trailer_of, sets_of, control_of, notes_in, set_codes, set_report}
-use Rattle.rules.specs.Groups.{Group, is_g_e, group_with, cut_after_ge, groups_of, supported, edition, table_in, set_reports, group_codes, verdict, accepted_in, group_report}
+use Rattle.rules.specs.Groups.{Group, is_ge, group_with, cut_after_ge, groups_of, supported, edition, table_in, set_reports, group_codes, verdict, accepted_in, group_report}
 use Rattle.rules.specs.Response.{fields_out, segment_out, out, ak3s, block, blocks, st_out, se_out, told, transaction_set, transaction_sets, ge_out, iea_out, first_header, respond, response}
 use Rattle.rules.specs.declared.Call.{Call}
 use Rattle.rules.specs.declared.Delimiters.{Delimiters}
@@ -314,7 +314,7 @@ module _ (d : Delimiters) where
   cut_size [] = omega arith
   cut_size (s ∷ ss) =
       simp (out_cons d)
-      (either (λ (ps : List (List Segment)). pieces_size ps ≤ suc (length ss) + (length (segment_out d s) + length (out d ss))) (is_g_e s)
+      (either (λ (ps : List (List Segment)). pieces_size ps ≤ suc (length ss) + (length (segment_out d s) + length (out d ss))) (is_ge s)
       (omega (arith, cut_size ss, out_cons d s [], out_nil d))
       (omega (arith, cut_size ss, push_size s (cut_after_ge ss), out_cons d s [], out_nil d)))
 
@@ -326,7 +326,7 @@ module _ (d : Delimiters) where
   group_size : (gs : Segment) (inner : List Segment) → size ((group_with gs inner).header ∷ (group_with gs inner).body) ≤ size (gs ∷ inner)
   unfolding group_with
   group_size gs inner =
-      either (λ (g : Group). size (g.header ∷ g.body) ≤ size (gs ∷ inner)) (is_g_e (last [] inner))
+      either (λ (g : Group). size (g.header ∷ g.body) ≤ size (gs ∷ inner)) (is_ge (last [] inner))
       (simp (out_cons d) (omega (arith, front_size inner)))
       (omega arith)
 

@@ -14,7 +14,7 @@ use lib.Seq.{slice, slice_empty, split_at, take-suc, get_or-take, take-take, dro
 use Rattle.rules.specs.Base.{Bytes, Rule, ascii, same, member, between, all, any, front, last, first}
 use Rattle.rules.specs.Cutting.{Segment, field, is_named, segments, split, separators, fields_at, isa, knows_repetition, repetition_in, delimiters, repetition_mark, marks, valid}
 use Rattle.rules.specs.Numbers.{digits}
-use Rattle.rules.specs.Groups.{Group, groups_of, cut_after_ge, is_g_e, sets}
+use Rattle.rules.specs.Groups.{Group, groups_of, cut_after_ge, is_ge, sets}
 use Rattle.rules.specs.Refusals.{good_call, call_rules, has_isa, is_whole_group, plain, distinct, good_marks, text_fields, good_isa, head_rules, end_rules, enveloped, most_groups, envelope_rules, has_two, closes, counts_groups, trailer_rules, header_rules, answer_rules, set_rules, group_rules, groups_rules, refusal_rules, refusal}
 use Rattle.rules.specs.Damage.{flat, groups_in, flat_groups, free}
 use Rattle.rules.specs.declared.Call.{Call}
@@ -169,13 +169,13 @@ marks_differ d e =
     let ct = eqb d.component d.terminator in
     let cr = any (eqb d.component) rs in
     let tr = any (eqb d.terminator) rs in
-    let of-e = not (ec || (et || er)) in
+    let of_e = not (ec || (et || er)) in
     let of_c = not (ct || cr) in
-    let of-t = not tr && distinct rs in
-    let first = not-true (ec || (et || er)) (and_left of-e (of_c && of-t) e) in
-    let later = and_right of-e (of_c && of-t) e in
-    let second = not-true (ct || cr) (and_left of_c of-t later) in
-    let third = not-true tr (and_left (not tr) (distinct rs) (and_right of_c of-t later)) in
+    let of_t = not tr && distinct rs in
+    let first = not-true (ec || (et || er)) (and_left of_e (of_c && of_t) e) in
+    let later = and_right of_e (of_c && of_t) e in
+    let second = not-true (ct || cr) (and_left of_c of_t later) in
+    let third = not-true tr (and_left (not tr) (distinct rs) (and_right of_c of_t later)) in
     (or_left et er (or_right ec (et || er) first), or_left ct cr second, third)
 
 -- so no field of ISA holds the terminator
@@ -326,10 +326,10 @@ module _ (i : Bytes) (h : Header i) where
 data Cut : List Segment → Type 0 where
   no_piece : Cut []
   open_piece : (x : Segment) (xs : List Segment) → all is_open (x ∷ xs) ≡ true → Cut (x ∷ xs)
-  closed_piece : (xs : List Segment) (ge : Segment) (rest : List Segment) → all is_open xs ≡ true → is_g_e ge ≡ true → Cut rest → Cut (xs ++ ge ∷ rest)
+  closed_piece : (xs : List Segment) (ge : Segment) (rest : List Segment) → all is_open xs ≡ true → is_ge ge ≡ true → Cut rest → Cut (xs ++ ge ∷ rest)
 
 -- one segment more in front
-cut_one : (s : Segment) {ss : List Segment} (b : Bool) → is_g_e s ≡ b → Cut ss → Cut (s ∷ ss)
+cut_one : (s : Segment) {ss : List Segment} (b : Bool) → is_ge s ≡ b → Cut ss → Cut (s ∷ ss)
 unfolding all
 cut_one s {ss} true p c = closed_piece [] s ss refl p c
 cut_one s false p no_piece = open_piece s [] (rw p)
@@ -338,7 +338,7 @@ cut_one s false p (closed_piece xs ge rest o e c) = closed_piece (s ∷ xs) ge r
 
 cut_all : (ss : List Segment) → Cut ss
 cut_all [] = no_piece
-cut_all (s ∷ ss) = cut_one s (is_g_e s) refl (cut_all ss)
+cut_all (s ∷ ss) = cut_one s (is_ge s) refl (cut_all ss)
 
 -- the groups of the pieces
 abbrev groups_from : List Segment → List Group
@@ -353,7 +353,7 @@ flat_from (closed_piece [] ge rest o e c) = rw (cut_closed [] ge rest refl e, gr
 flat_from (closed_piece (x ∷ xs) ge rest o e c) = rw (cut_closed (x ∷ xs) ge rest o e, group_closed x xs ge e, flat_from c)
 
 -- GS is not GE
-pub gs_open : (s : Segment) → is_named (ascii "GS") s ≡ true → is_g_e s ≡ false
+pub gs_open : (s : Segment) → is_named (ascii "GS") s ≡ true → is_ge s ≡ false
 unfolding same
 gs_open s p = rw (same→eq (field s 0) (ascii "GS") p)
 

@@ -14,7 +14,7 @@ use lib.ListN.{length, drop, get_or, length-map}
 use Rattle.rules.specs.Base.{Bytes, Rule, ◌⇒◌, first, all, between, ascii, same, push, front, last}
 use Rattle.rules.specs.Cutting.{Segment, field, is_named, delimiters, isa, segments}
 use Rattle.rules.specs.Numbers.{padded}
-use Rattle.rules.specs.Groups.{Group, is_g_e, group_with, cut_after_ge, groups_of, group_report}
+use Rattle.rules.specs.Groups.{Group, is_ge, group_with, cut_after_ge, groups_of, group_report}
 use Rattle.rules.specs.Refusals.{call_rules, head_rules, is_terminated, end_rules, is_envelope, is_whole_group, enveloped, most_groups, envelope_rules, has_two, closes, counts_groups, trailer_rules, group_rules, groups_rules, refusal_rules, refusal}
 use Rattle.rules.specs.Response.{out, transaction_set, transaction_sets, isa_out, gs_out, ge_out, iea_out, respond, response}
 use Rattle.rules.specs.InterchangeAcknowledgment.{note_code_rules, Verdict, verdict_by, interchange_verdict, interchange_refusal, ta1, interchange_respond, interchange_response}
@@ -96,7 +96,7 @@ former_interchange_acknowledgment i call =
 -- a GE before the last segment makes a second piece, and without one there is one piece
 cut_some : (s : Segment) (ss : List Segment) → 1 ≤ length (cut_after_ge (s ∷ ss))
 unfolding cut_after_ge
-cut_some s ss = go (is_g_e s) (cut_after_ge ss)
+cut_some s ss = go (is_ge s) (cut_after_ge ss)
   where
     go : (b : Bool) (r : List (List Segment)) → 1 ≤ length (if b then (s ∷ []) ∷ r else push s r)
     go true r = omega arith
@@ -105,14 +105,14 @@ cut_some s ss = go (is_g_e s) (cut_after_ge ss)
 
 cut_one : (s : Segment) (ss : List Segment) → all is_open (front (s ∷ ss)) ≡ true → cut_after_ge (s ∷ ss) ≡ (s ∷ ss) ∷ []
 unfolding cut_after_ge front
-cut_one s [] e = either (λ (ps : List (List Segment)). ps ≡ (s ∷ []) ∷ []) (is_g_e s) refl refl
+cut_one s [] e = either (λ (ps : List (List Segment)). ps ≡ (s ∷ []) ∷ []) (is_ge s) refl refl
 cut_one s (t ∷ ss) e =
-    rw (not-true (is_g_e s) (all_head is_open s (front (t ∷ ss)) e), cut_one t ss (all_tail is_open s (front (t ∷ ss)) e))
+    rw (not-true (is_ge s) (all_head is_open s (front (t ∷ ss)) e), cut_one t ss (all_tail is_open s (front (t ∷ ss)) e))
 
 cut_more : (s : Segment) (ss : List Segment) → all is_open (front (s ∷ ss)) ≡ false → 2 ≤ length (cut_after_ge (s ∷ ss))
 unfolding cut_after_ge front all
 cut_more s [] e = absurd (true≢false e)
-cut_more s (t ∷ ss) e = go (is_g_e s) (cut_after_ge (t ∷ ss)) e (cut_some t ss) (cut_more t ss)
+cut_more s (t ∷ ss) e = go (is_ge s) (cut_after_ge (t ∷ ss)) e (cut_some t ss) (cut_more t ss)
   where
     go : (b : Bool) (r : List (List Segment)) → not b && all is_open (front (t ∷ ss)) ≡ false → 1 ≤ length r
         → (all is_open (front (t ∷ ss)) ≡ false → 2 ≤ length r) → 2 ≤ length (if b then (s ∷ []) ∷ r else push s r)
@@ -122,19 +122,19 @@ cut_more s (t ∷ ss) e = go (is_g_e s) (cut_after_ge (t ∷ ss)) e (cut_some t 
 
 former_header : (ss : List Segment) → (former_group ss).header ≡ get_or ss 1 []
 unfolding former_group group_with
-former_header ss = either (λ (g : Group). g.header ≡ get_or ss 1 []) (is_g_e (last [] (front (drop 2 ss)))) refl refl
+former_header ss = either (λ (g : Group). g.header ≡ get_or ss 1 []) (is_ge (last [] (front (drop 2 ss)))) refl refl
 
 -- a whole group has no GE before its last segment
 whole_open : (gs : Segment) (inner : List Segment) → is_named (ascii "GS") gs ≡ true → all is_outer (group_with gs inner).body ≡ true
     → all is_open (front (gs ∷ inner)) ≡ true
 unfolding front all group_with
 whole_open gs [] g e = refl
-whole_open gs (s ∷ ss) g e = all_cons is_open gs (front (s ∷ ss)) (rw (gs_open gs g)) (go (is_g_e (last [] (s ∷ ss))) refl e)
+whole_open gs (s ∷ ss) g e = all_cons is_open gs (front (s ∷ ss)) (rw (gs_open gs g)) (go (is_ge (last [] (s ∷ ss))) refl e)
   where
     open_outer : (xs : List Segment) → all is_outer xs ≡ true → all is_open xs ≡ true
     open_outer = all_weaken is_outer is_open outer_open
 
-    go : (b : Bool) → is_g_e (last [] (s ∷ ss)) ≡ b → all is_outer (group_with gs (s ∷ ss)).body ≡ true → all is_open (front (s ∷ ss)) ≡ true
+    go : (b : Bool) → is_ge (last [] (s ∷ ss)) ≡ b → all is_outer (group_with gs (s ∷ ss)).body ≡ true → all is_open (front (s ∷ ss)) ≡ true
     go true q e = open_outer (front (s ∷ ss)) (rw q at e)
     go false q e =
         all_left is_open (front (s ∷ ss)) (last [] (s ∷ ss) ∷ []) (rw (front_last [] s ss) (open_outer (s ∷ ss) (rw q at e)))

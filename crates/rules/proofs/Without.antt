@@ -16,7 +16,7 @@ use Rattle.rules.specs.Tables.{Row, Syntax, Entry, Table}
 use Rattle.rules.specs.Elements.{repeats, element_code, Finding, place_codes, found, findings_from, findings}
 use Rattle.rules.specs.Segments.{Present, Standing, unknown, unlisted, before, again, later, entry_at, standing, moved, findings_by, walk, notes_of}
 use Rattle.rules.specs.Sets.{Set, is_st, is_se, body_of, trailer_of, sets_of, control_of, notes_in, set_report}
-use Rattle.rules.specs.Groups.{Group, is_g_e, group_with, cut_after_ge, groups_of, sets, table_in, set_reports, group_report}
+use Rattle.rules.specs.Groups.{Group, is_ge, group_with, cut_after_ge, groups_of, sets, table_in, set_reports, group_report}
 use Rattle.rules.specs.Refusals.{call_rules, head_rules, is_terminated, end_rules, is_whole_group, enveloped, most_groups, envelope_rules, has_two, closes, counts_groups, trailer_rules, good_gs, header_rules, good_st, set_rules, group_rules, groups_rules, refusal}
 use Rattle.rules.specs.Response.{fields_out, out, isa_out, respond, response}
 use Rattle.rules.specs.InterchangeAcknowledgment.{note_code_rules, verdict_by, interchange_verdict, interchange_rules, interchange_refusal, ta1, interchange_respond, interchange_response}
@@ -92,7 +92,7 @@ module _ (b : ℕ) where
   cut_free : (ss : List Segment) → all is_free ss ≡ true → Each (λ p. all is_free p ≡ true) (cut_after_ge ss)
   unfolding cut_after_ge Each all
   cut_free [] e = tt
-  cut_free (s ∷ ss) e = go (is_g_e s) (cut_after_ge ss) (cut_free ss (all_tail is_free s ss e))
+  cut_free (s ∷ ss) e = go (is_ge s) (cut_after_ge ss) (cut_free ss (all_tail is_free s ss e))
     where
       go : (c : Bool) (ps : List (List Segment)) → Each (λ p. all is_free p ≡ true) ps
           → Each (λ p. all is_free p ≡ true) (if c then (s ∷ []) ∷ ps else push s ps)
@@ -102,7 +102,7 @@ module _ (b : ℕ) where
 
   with_free : (gs : Segment) (inner : List Segment) → is_free gs ≡ true → all is_free inner ≡ true → FreeGroup (group_with gs inner)
   unfolding group_with
-  with_free gs inner e h = go (is_g_e (last [] inner))
+  with_free gs inner e h = go (is_ge (last [] inner))
     where
       go : (c : Bool)
           → FreeGroup (if c then record { header = gs; body = front inner; trailer = some (last [] inner) } else record { header = gs; body = inner; trailer = none })

@@ -14,19 +14,19 @@ pub record Group : Type 0 where
   pub body : List Segment
   pub trailer : Option Segment
 
-abbrev pub is_g_e : Segment → Bool
-is_g_e = is_named (ascii "GE")
+abbrev pub is_ge : Segment → Bool
+is_ge = is_named (ascii "GE")
 
 -- GS and what follows it, of which the last may be GE
 unfoldable pub group_with : Segment → List Segment → Group
 group_with gs inner =
-    if is_g_e (last [] inner) then record { header = gs; body = front inner; trailer = some (last [] inner) }
+    if is_ge (last [] inner) then record { header = gs; body = front inner; trailer = some (last [] inner) }
     else record { header = gs; body = inner; trailer = none }
 
 -- segments cut after each GE; those after the last GE are a piece too
 unfoldable pub cut_after_ge : List Segment → List (List Segment)
 cut_after_ge [] = []
-cut_after_ge (s ∷ ss) = let r = cut_after_ge ss in if is_g_e s then (s ∷ []) ∷ r else push s r
+cut_after_ge (s ∷ ss) = let r = cut_after_ge ss in if is_ge s then (s ∷ []) ∷ r else push s r
 
 -- the groups of an interchange: the pieces between its first segment, ISA, and its last, IEA; check 7 asks of each whether it is a whole group
 unfoldable pub groups_of : List Segment → List Group

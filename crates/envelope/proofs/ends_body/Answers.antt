@@ -16,5 +16,5 @@ returns-then-s-eq0 c = sym (envelope_other _ _ (λ l _. omega arith) (λ l _. om
 pub returns-then-s : goal.returns-then-s
 returns-then-s c =
     let start = get_or c.args.s.now 0 0 in
-    let not-i = not (eqb start (get_or (ascii "ISA") 0 0)) in
-    sym (envelope_other _ _ (λ _. eqb-false _ _ (not-true _ (and_left not-i _ c.if-s.true))) (λ _. eqb-false _ _ (not-true _ (and_right not-i _ c.if-s.true))))
+    let not_i = not (eqb start (get_or (ascii "ISA") 0 0)) in
+    sym (envelope_other _ _ (λ _. eqb-false _ _ (not-true _ (and_left not_i _ c.if-s.true))) (λ _. eqb-false _ _ (not-true _ (and_right not_i _ c.if-s.true))))

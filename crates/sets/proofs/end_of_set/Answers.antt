@@ -20,13 +20,13 @@ overflow_add-next c = let within = find_end _ _ _ _ c.find-end.ensures c.loop-ne
 pub loop-next-preserved-then-first : goal.loop-next-preserved-then-first
 loop-next-preserved-then-first c =
     let first = get_or c.args.i.now c.loop-next.next 0 in
-    let not-s = not (eqb first (get_or (ascii "SE") 0 0)) in
-    let not-i = not (eqb first (get_or (ascii "ISA") 0 0)) in
-    let not-g = not (eqb first (get_or (ascii "GS") 0 0)) in
+    let not_s = not (eqb first (get_or (ascii "SE") 0 0)) in
+    let not_i = not (eqb first (get_or (ascii "ISA") 0 0)) in
+    let not_g = not (eqb first (get_or (ascii "GS") 0 0)) in
     through_plain c.loop-next.invariant c.loop-next-test.true c.find-end.ensures
-    (eqb-false _ _ (not-true _ (and_left not-s not-i (and_left (not-s && not-i) not-g c.if-first.true))))
-    (eqb-false _ _ (not-true _ (and_right not-s not-i (and_left (not-s && not-i) not-g c.if-first.true))))
-    (eqb-false _ _ (not-true _ (and_right (not-s && not-i) not-g c.if-first.true)))
+    (eqb-false _ _ (not-true _ (and_left not_s not_i (and_left (not_s && not_i) not_g c.if-first.true))))
+    (eqb-false _ _ (not-true _ (and_right not_s not_i (and_left (not_s && not_i) not_g c.if-first.true))))
+    (eqb-false _ _ (not-true _ (and_right (not_s && not_i) not_g c.if-first.true)))
 
 pub slice_bounds-segment-end : goal.slice_bounds-segment-end
 slice_bounds-segment-end c = find_end _ _ _ _ c.find-end.ensures c.loop-next-test.true
