@@ -1,5 +1,7 @@
 # For each public function of a Rattle source file the two lines that Determined.antt must have for it: where its clauses are read off, and the
 # statement over its own Pre and Post, its result and every `&mut` that it is lent. `crate` and `module` (empty for lib.rt) say whose file it is.
+# A function over any type of a trait has the statement for each such type, and must not have a `requires`: its Pre says only that what the type
+# borrows lives as long as the call.
 {
     sub(/\/\/.*/, "")
     text = text " " $0
@@ -47,6 +49,7 @@ END {
         if (owner != "" && inner <= level) owner = ""
         if (found !~ /fn /) continue
         name = found
+        generic = found ~ /<[A-Z]/
         sub(/.*fn /, "", name); sub(/[<(].*/, "", name)
         depth = 1
         for (i = 1; i <= length(rest) && depth > 0; i++) {
@@ -66,7 +69,9 @@ END {
         alias = crate "_" (module == "" ? "" : module "_") (owner == "" ? "" : snake(owner) "_") name
         gsub(/\./, "_", alias)
         printf "use Rattle.%s.proofs.%s.Reads as %s\n", crate, path, alias
-        printf "%s_once : Determined %s.Pre %s.Post (λ κs r s. %s)\n", alias, alias, alias, seen
+        if (!generic) printf "%s_once : Determined %s.Pre %s.Post (λ κs r s. %s)\n", alias, alias, alias, seen
+        else if (after ~ /^[^{]*requires/) printf "%s_once : a theorem for a generic function with a requires\n", alias
+        else printf "%s_once : (P : RattleType) (L : Laws P) (G : Ghosts P.Denot) (w : Dict) → Coincides (%s.Post P L G w) (λ κs r s. %s)\n", alias, alias, seen
     }
 }
 

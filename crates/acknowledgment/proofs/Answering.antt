@@ -1,4 +1,7 @@
 -- The response as it is written, and what the checks leave to the answer.
+use Rattle.std.specs.Prelude.{Option, Some, Result, Err}
+use Rattle.std.specs.Result.{IsErrAnd}
+use Rattle.std.proofs.lemmas.Result.{err_from_is_err_and}
 use Prim.Native.Nat.{ℕ, zero, suc, ◌+◌, ◌*◌, ◌≤◌, ◌<◌}
 use mathlib.Core.Path.{◌≡◌, refl, ap, ◌∙◌}
 use mathlib.Core.Bool.{false}
@@ -21,18 +24,21 @@ use Rattle.rules.proofs.Cuts.{out_append}
 use Rattle.text.specs.Text.{part}
 use Rattle.envelope.specs.Places.{group_at}
 use Rattle.envelope.specs.declared.GroupAt.{GroupAt}
-use Rattle.envelope.specs.declared.NextGroup.{NextGroup}
-use Rattle.envelope.specs.declared.NextGroup.TheVariants.{Found}
 use Rattle.envelope.specs.declared.Envelope.{Envelope}
 use Rattle.envelope.proofs.Laws.{Groups, no_group, a_group, EnvelopeIs}
 use Rattle.writing.specs.Over.{sat, Wrote, From}
 use Rattle.writing.proofs.Laws.{seq, whole}
+use Rattle.acknowledgment.specs.declared.set_block.Mark.TheVariants.{Accepted}
 use Rattle.acknowledgment.specs.Writers.{opening, closing}
 use Rattle.acknowledgment.specs.Entries.{acknowledgments, Roomy, Answering}
 
+-- what a `?` hands on
+pub handed : {T E : Type 0} {r : Result T E} {e : E} → IsErrAnd r (λ (x : E). x ≡ e) → r ≡ Err e
+handed {r = r} h = let told = err_from_is_err_and r h in told.1 ∙ ap Err told.2
+
 -- 1. The whole response.
 -- GS of the first group
-first_header_lem : {d : Delimiters} {i : Bytes} {s : NextGroup} {gs : List Group} {g : GroupAt} → Groups d i s gs → s ≡ Found g → first_header gs ≡ (group_at d i g).header
+first_header_lem : {d : Delimiters} {i : Bytes} {s : Option GroupAt} {gs : List Group} {g : GroupAt} → Groups d i s gs → s ≡ Some g → first_header gs ≡ (group_at d i g).header
 first_header_lem no_group e = let z : ◌≡◌ {A = ℕ} 0 1 = cc in absurd (omega arith)
 first_header_lem {d} {i} {g = g} (a_group {g = h} within steps) e = let same : h ≡ g = cc in rw same
 
@@ -72,13 +78,13 @@ zeros_at (suc n) zero = refl
 zeros_at (suc n) (suc b) = zeros_at n b
 
 -- as many as the longest interchange needs, or a short one
-pub roomy : (i : Bytes) (n : ℕ) → length i + 192 < 12 * n + 12 → n ≤ 5477 → Roomy i (replicate n 0) (replicate n 0) (replicate (1024 + 4 * n) 0)
+pub roomy : (i : Bytes) (n : ℕ) → length i + 192 < 12 * n + 12 → n ≤ 5477 → Roomy i (replicate n 0) (replicate n Accepted) (replicate (1024 + 4 * n) 0)
 roomy i n h few =
     let many = length-replicate {A = ℕ} n 0 in
     record {
       none = zeros_at (1024 + 4 * n);
       places = omega arith;
-      marked = refl;
+      marked = omega (arith, many, length-replicate n Accepted);
       linked = omega (arith, length-replicate {A = ℕ} (1024 + 4 * n) 0);
       few = omega arith;
     }

@@ -1,15 +1,17 @@
 -- The block of a set: its notes, its codes and its segments, as written, are those that document 01 reports of the set at a place.
-use Rattle.std.specs.Prelude.{if◌then◌else◌}
+use Rattle.std.specs.Prelude.{if◌then◌else◌, is_none, is_some, Option, None, Some}
+use Rattle.std.specs.Bool.{then_some}
+use Rattle.std.specs.Option.{option_copied}
+use denote.Ref.{Bor}
 use mathlib.Core.Path.{◌≡◌, refl, sym, ap, ◌∙◌, subst⁻¹}
 use mathlib.Core.Bool.{Bool, true, false, not, not-not}
 use mathlib.Core.List.{List, [], ◌∷◌, ◌++◌, map, append-nil, append_assoc}
-use mathlib.Core.Option.{Option, none, some}
 use Prim.Native.Nat.{ℕ, ◌+◌, ◌-◌, ◌<◌}
 use native.Mathlib.Omega.{arith}
 use borrow.Author.Tests.{ne_eqb}
 use lib.Dec.{eqb}
 use lib.ListN.{length, take, drop, length-append, length-take, length-drop}
-use Rattle.rules.specs.Base.{Bytes, every, ascii, null, is_none, member}
+use Rattle.rules.specs.Base.{Bytes, every, ascii, null, member}
 use Rattle.rules.specs.Cutting.{Segment, field, split, segments}
 use Rattle.rules.specs.Numbers.{decimal}
 use Rattle.rules.specs.Tables.{Table}
@@ -19,10 +21,9 @@ use Rattle.rules.specs.Sets.{Set, SetReport, segments_of, control_of, notes_in, 
 use Rattle.rules.specs.Response.{fields_out, segment_out, out, ak2, ak3, ak3s, ak5, block}
 use Rattle.rules.specs.declared.Delimiters.{Delimiters}
 use Rattle.tables.specs.Reading.{Guide, Limits}
-use Rattle.guides.specs.Choice.{is_there, place_of, table_at}
+use Rattle.guides.specs.Choice.{place_of, table_at}
 use Rattle.guides.specs.declared.Scope.{Scope}
 use Rattle.guides.specs.declared.TableAt.{TableAt}
-use Rattle.guides.specs.declared.TableAt.TheVariants.{Rows, Nowhere}
 use Rattle.text.specs.Text.{index_of, part}
 use Rattle.segments.proofs.Pieces.{segments_at}
 use Rattle.sets.specs.Places.{set_at}
@@ -31,7 +32,7 @@ use Rattle.sets.proofs.Sets.{SetIs, set_in, header_at}
 use Rattle.verdicts.specs.Collecting.{codes_of, collected}
 use Rattle.verdicts.specs.Verdicts.{trailer_if, set_code_rules}
 use Rattle.verdicts.specs.declared.Codes.{Codes}
-use Rattle.verdicts.proofs.Laws.{closed_if, trailer_if_lem, set_codes_lem}
+use Rattle.verdicts.proofs.Laws.{set_codes_lem}
 use Rattle.findings.specs.Events.{flat, written}
 use Rattle.findings.specs.Remaining.{events, remaining}
 use Rattle.findings.specs.Steps.{start}
@@ -53,9 +54,23 @@ use Rattle.acknowledgment.specs.Surveys.{set_here, report_at, acceptance}
 pub record Parts (d : Delimiters) (s : Set) (closed : Bool) (n : ℕ) (bs st se : Bytes) : Type 0 where
   pub whole : segments_of s ≡ segments d bs
   pub header : split d.element st ≡ s.header
-  pub trailer : trailer_if closed (split d.element se) ≡ s.trailer
+  pub trailer : trailer_if d.element (then_some closed se) ≡ s.trailer
   pub counted : n ≡ length (segments_of s)
   pub short : length bs < 9223372036854775808
+
+-- the trailer of what is closed, by its bytes
+pub trailer_by : (e : ℕ) (closed : Bool) (se : Bytes) → trailer_if e (then_some closed se) ≡ (if closed then Some (split e se) else None)
+trailer_by e true se = refl
+trailer_by e false se = refl
+
+closed_by : (e : ℕ) (closed : Bool) (se : Bytes) → not closed ≡ is_none (trailer_if e (then_some closed se))
+closed_by e true se = refl
+closed_by e false se = refl
+
+-- the bytes of what is lent
+pub copied_if : (closed : Bool) (se : Bor Bytes) → option_copied (then_some closed se) ≡ then_some closed se.now
+copied_if true se = refl
+copied_if false se = refl
 
 -- the parts at a place
 pub parts_at : {d : Delimiters} {body bs st se : Bytes} {at : ℕ} {r : SetAt} → SetIs d body at r → length body < 9223372036854775808
@@ -64,7 +79,7 @@ pub parts_at : {d : Delimiters} {body bs st se : Bytes} {at : ℕ} {r : SetAt} �
 parts_at {r = r} is small p q t = record {
   whole = rw p is.whole;
   header = rw q (sym is.header);
-  trailer = sym (trailer_if_lem _ r.closed _ (rw is.closed (sym (not-not r.closed))) (λ k. is.trailer ∙ rw (k, t)));
+  trailer = trailer_by _ r.closed _ ∙ rw t (sym is.trailer);
   counted = is.counted;
   short = rw p (simp (length-take, length-drop) (omega arith));
 }
@@ -114,31 +129,31 @@ are_notes (n ∷ ns) {m} e = ap not (ne_eqb m 0 (λ k. omega arith))
 
 -- 3. The report of a set.
 -- what stands nowhere is no table
-pub there_is : (ids : List (List ℕ)) (rows : Guide) (t : TableAt) → is_there t ≡ not (is_none (table_at ids rows t))
-there_is ids rows (Rows from end) = refl
-there_is ids rows Nowhere = refl
+pub there_is : (ids : List (List ℕ)) (rows : Guide) (t : Option TableAt) → is_some t ≡ not (is_none (table_at ids rows t))
+there_is ids rows (Some t) = refl
+there_is ids rows None = refl
 
 -- a set without a table has a code
-pub nowhere_rejects : (d : Delimiters) (s : Set) → false ≡ accepted (set_report d none [] s)
+pub nowhere_rejects : (d : Delimiters) (s : Set) → false ≡ accepted (set_report d None [] s)
 unfolding set_report set_codes every
 nowhere_rejects d s = refl
 
 module _ {d : Delimiters} {s : Set} {closed : Bool} {n : ℕ} {bs st se : Bytes} (parts : Parts d s closed n bs st se) where
   -- the codes by the parts of a set are its codes
   pub codes_are : {codes : Codes} {there noted repeated : Bool}
-      → codes ≡ collected (set_code_rules (record { supported = there; closed = closed; segments = n; noted = noted; repeated = repeated }) (split d.element st) (trailer_if closed (split d.element se)))
+      → codes ≡ collected (set_code_rules (record { supported = there; segments = n; noted = noted; repeated = repeated }) (split d.element st) (trailer_if d.element (then_some closed se)))
       → (t : Option Table) (ns : List Note) (earlier : List Bytes) → there ≡ not (is_none t) → noted ≡ not (null ns)
       → repeated ≡ member (control_of s) earlier → codes_of codes ≡ set_codes t ns earlier s
   codes_are f t ns earlier p e g = rw f (set_codes_lem t ns earlier s _ p parts.header parts.trailer parts.counted e g)
 
   module _ (ids : List (List ℕ)) {rows : Guide} (limits : Limits rows) where
     abbrev notes : List Note
-    notes = notes_in d (some (table_of ids rows)) s
+    notes = notes_in d (Some (table_of ids rows)) s
 
     -- the events of a walk through the set are its notes
     pub events_are : events (remaining bs d ids rows closed start) ≡ flat notes
     events_are =
-        rw (walk_notes bs d ids rows closed limits parts.short (sym parts.whole), ← parts.trailer, ← closed_if closed (split d.element se), not-not closed)
+        rw (walk_notes bs d ids rows closed limits parts.short (sym parts.whole), ← parts.trailer, ← closed_by d.element closed se, not-not closed)
 
     -- what the walk says is its notes
     pub notes_are : map written (events (remaining bs d ids rows closed start)) ≡ ak3s notes

@@ -1,13 +1,12 @@
 -- One look at a set: what it comes to is what is reported of the set.
-use Rattle.std.specs.Prelude.{if◌then◌else◌}
+use Rattle.std.specs.Prelude.{if◌then◌else◌, is_none, Option, None, Some}
 use mathlib.Core.Path.{◌≡◌, refl, sym, ap, ◌∙◌}
 use mathlib.Core.Bool.{Bool, true, false, ◌&&◌, and-true, and-false, not, false≢true}
 use mathlib.Core.List.{List, [], ◌∷◌}
-use mathlib.Core.Option.{Option, none, some}
 use Prim.Native.Nat.{ℕ, ◌+◌, ◌-◌}
 use native.Mathlib.Omega.{arith}
 use lib.ListN.{length, drop}
-use Rattle.rules.specs.Base.{Bytes, ◌⇒◌, every, null, any, is_none, holds, same, member}
+use Rattle.rules.specs.Base.{Bytes, ◌⇒◌, every, null, any, holds, same, member}
 use Rattle.rules.specs.Cutting.{Segment, field, split}
 use Rattle.rules.specs.Numbers.{declares}
 use Rattle.rules.specs.Tables.{Table}
@@ -19,7 +18,7 @@ use Rattle.tables.specs.Rows.{table_of}
 use Rattle.tables.specs.Reading.{Guide, Limits, Orderly}
 use Rattle.guides.specs.Choice.{place_of, rows_at}
 use Rattle.guides.specs.declared.Scope.{Scope}
-use Rattle.guides.specs.declared.TableAt.TheVariants.{Rows, Nowhere}
+use Rattle.guides.specs.declared.TableAt.{TableAt}
 use Rattle.text.specs.Text.{index_of, part}
 use Rattle.sets.specs.Places.{set_at}
 use Rattle.sets.specs.declared.SetAt.{SetAt}
@@ -30,12 +29,12 @@ use Rattle.findings.specs.Remaining.{events, remaining}
 use Rattle.findings.specs.Steps.{start}
 use Rattle.look.specs.Looking.{looked}
 use Rattle.look.proofs.Looking.{look_is}
-use Rattle.look.specs.declared.Look.TheVariants.{Quiet, Odd}
 use Rattle.acknowledgment.specs.Received.{table_by, Scoped, Ordered}
-use Rattle.acknowledgment.specs.Surveys.{set_here, report_at, header_at, Headed, closed_well, Sighted, SeenIs, mark_by, MarkIs, SurveyedIs}
+use Rattle.acknowledgment.specs.Surveys.{set_here, report_at, header_at, Headed, closed_well, Sighted, SeenIs, mark_by, is_accepted, MarkIs, SurveyedIs}
 use Rattle.acknowledgment.proofs.Blocks.{Parts, parts_at, header_here, acceptance_measured, nowhere_rejects, events_are, at_start}
 use Rattle.acknowledgment.proofs.Headers.{header_three}
 use Rattle.acknowledgment.proofs.Reports.{no_list, mark_block}
+use Rattle.acknowledgment.specs.declared.set_block.Mark.{Mark}
 use Rattle.acknowledgment.specs.declared.set_block.SeenSet.{SeenSet}
 use Rattle.acknowledgment.specs.Writers.{Measures}
 use Rattle.writing.specs.Over.{sat}
@@ -43,12 +42,12 @@ use Rattle.notes.specs.declared.Told.{Told}
 
 -- 1. The codes of a set with a table and a number of its own.
 -- without a trailer it has one
-open_rejects : (t : Table) (ns : List Note) (s : Set) → s.trailer ≡ none → null (set_codes (some t) ns [] s) ≡ false
+open_rejects : (t : Table) (ns : List Note) (s : Set) → s.trailer ≡ None → null (set_codes (Some t) ns [] s) ≡ false
 unfolding set_codes every
 open_rejects t ns s e = rw e
 
 -- with one, the trailer and the notes decide
-closed_by : (trailer : Option Segment) (n : ℕ) (control : Bytes) (ns : List Note) {se : Segment} → trailer ≡ some se
+closed_by : (trailer : Option Segment) (n : ℕ) (control : Bytes) (ns : List Note) {se : Segment} → trailer ≡ Some se
     → null (every ((is_none trailer ⇒ 2) ∷ (holds (λ se. not (same (field se 2) control)) trailer ⇒ 3) ∷ (holds (λ se. not (declares 10 (field se 1) n)) trailer ⇒ 4) ∷ (not (null ns) ⇒ 5) ∷ (false ⇒ 23) ∷ []))
     ≡ (declares 10 (field se 1) n && same (field se 2) control) && null ns
 unfolding every
@@ -61,18 +60,18 @@ closed_by trailer n control ns {se} e = rw e (go (same (field se 2) control) (de
     go false true n = refl
     go false false n = refl
 
-closed_accepts : (t : Table) (ns : List Note) (s : Set) {se : Segment} → s.trailer ≡ some se
-    → null (set_codes (some t) ns [] s) ≡ (declares 10 (field se 1) (length (segments_of s)) && same (field se 2) (control_of s)) && null ns
+closed_accepts : (t : Table) (ns : List Note) (s : Set) {se : Segment} → s.trailer ≡ Some se
+    → null (set_codes (Some t) ns [] s) ≡ (declares 10 (field se 1) (length (segments_of s)) && same (field se 2) (control_of s)) && null ns
 unfolding set_codes every any
 closed_accepts t ns s e = closed_by s.trailer (length (segments_of s)) (control_of s) ns e
 
 -- 2. What a look comes to.
 -- a look that is quiet says two things at once, and so does one that is not
-quiet_says : {place p : SetAt} (b : Bool) → Quiet p ≡ (if b then Quiet place else Odd) → (b ≡ true) × (p ≡ place)
+quiet_says : {place p : SetAt} (b : Bool) → Some p ≡ (if b then Some place else None) → (b ≡ true) × (p ≡ place)
 quiet_says true e = (refl, cc)
 quiet_says false e = (cc, cc)
 
-odd_says : (place : SetAt) (b : Bool) → Odd ≡ (if b then Quiet place else Odd) → b ≡ false
+odd_says : (place : SetAt) (b : Bool) → None ≡ (if b then Some place else None) → b ≡ false
 odd_says place true e = cc
 odd_says place false e = refl
 
@@ -102,27 +101,27 @@ module _ {d : Delimiters} {body : Bytes} {valid : List Bool} {rows : Guide} {sco
 
   module _ {st01 : Bytes} (kind : st01 ≡ field here.header 1) where
     -- a set without a table
-    pub sees_nowhere : place_of scope st01 ≡ Nowhere → (ids : List (List ℕ)) → false ≡ report ids
+    pub sees_nowhere : place_of scope st01 ≡ None → (ids : List (List ℕ)) → false ≡ report ids
     sees_nowhere e ids = rw (← kind, e) (nowhere_rejects d here)
 
-    module _ {from end : ℕ} (e : place_of scope st01 ≡ Rows from end) (ids : List (List ℕ)) (ordered : Ordered ids rows scope) where
+    module _ {t : TableAt} (e : place_of scope st01 ≡ Some t) (ids : List (List ℕ)) (ordered : Ordered ids rows scope) where
       abbrev table : Table
-      table = table_of ids (rows_at rows from end)
+      table = table_of ids (rows_at rows t.start t.end)
 
-      limits : Limits (rows_at rows from end)
+      limits : Limits (rows_at rows t.start t.end)
       limits = (rw e at (s.tables st01)).limits
 
-      orderly : Orderly ids (rows_at rows from end)
+      orderly : Orderly ids (rows_at rows t.start t.end)
       orderly = rw e at (ordered st01)
 
       quiet : Bool
-      quiet = null (events (remaining (part body at place.end) d ids (rows_at rows from end) true start))
+      quiet = null (events (remaining (part body at place.end) d ids (rows_at rows t.start t.end) true start))
 
-      looks : looked valid d (rows_at rows from end) body at ≡ (if place.closed && quiet then Quiet place else Odd)
+      looks : looked valid d (rows_at rows t.start t.end) body at ≡ (if place.closed && quiet then Some place else None)
       unfolding quiet
       looks = rw s.bytes (look_is d body s.headed.inside (omega (arith, s.short)) s.apart limits orderly)
 
-      by_table : report ids ≡ null (set_codes (some table) (notes_in d (some table) here) [] here)
+      by_table : report ids ≡ null (set_codes (Some table) (notes_in d (Some table) here) [] here)
       unfolding set_report
       by_table = rw (← kind, e)
 
@@ -131,52 +130,52 @@ module _ {d : Delimiters} {body : Bytes} {valid : List Bool} {rows : Guide} {sco
 
       -- its trailer, where it has one
       trailer_is : (closed : Bool) → place.closed ≡ closed
-          → here.trailer ≡ (if closed then some (split d.element (part body place.trailer (place.end - 1))) else none)
+          → here.trailer ≡ (if closed then Some (split d.element (part body place.trailer (place.end - 1))) else None)
       trailer_is closed c = s.is.trailer ∙ rw c
 
       -- nothing is told where there are no notes
-      quiet_is : place.closed ≡ true → quiet ≡ null (notes_in d (some table) here)
+      quiet_is : place.closed ≡ true → quiet ≡ null (notes_in d (Some table) here)
       unfolding quiet
       quiet_is c =
-          ap (λ (b : Bool). null (events (remaining (part body at place.end) d ids (rows_at rows from end) b start))) (sym c)
+          ap (λ (b : Bool). null (events (remaining (part body at place.end) d ids (rows_at rows t.start t.end) b start))) (sym c)
           ∙ ap null (events_are parts ids limits)
-          ∙ null_flat (notes_in d (some table) here)
+          ∙ null_flat (notes_in d (Some table) here)
 
       -- a quiet set: its trailer decides, and nothing is told of it
-      pub sees_quiet : {p : SetAt} → Quiet p ≡ looked valid d (rows_at rows from end) body at
+      pub sees_quiet : {p : SetAt} → Some p ≡ looked valid d (rows_at rows t.start t.end) body at
           → (p ≡ place) × ((closed_well d body p control ≡ report ids) × ((report_at d (table_by ids rows scope) body at []).notes ≡ []))
       unfolding set_report
       sees_quiet {p} q =
           let says = quiet_says (place.closed && quiet) (q ∙ looks) in
           let c = and_left place.closed quiet says.0 in
           let n = sym (quiet_is c) ∙ and_right place.closed quiet says.0 in
-          let codes = by_table ∙ closed_accepts table (notes_in d (some table) here) here (trailer_is true c) in
+          let codes = by_table ∙ closed_accepts table (notes_in d (Some table) here) here (trailer_is true c) in
           let untold : notes_in d (table_by ids rows scope here) here ≡ [] = rw (← kind, e) (no_list _ n) in
           (says.1, (rw says.1 (sym (codes ∙ rw (n, ← s.is.counted, s.is.control, ← s.numbered) (and-true (closed_well d body place control)))), untold))
 
       -- any other has a code
-      pub sees_odd : Odd ≡ looked valid d (rows_at rows from end) body at → false ≡ report ids
+      pub sees_odd : None ≡ looked valid d (rows_at rows t.start t.end) body at → false ≡ report ids
       sees_odd q = go place.closed refl (odd_says place (place.closed && quiet) (q ∙ looks))
         where
           go : (closed : Bool) → place.closed ≡ closed → place.closed && quiet ≡ false → false ≡ report ids
-          go false c f = sym (by_table ∙ open_rejects table (notes_in d (some table) here) here (trailer_is false c))
+          go false c f = sym (by_table ∙ open_rejects table (notes_in d (Some table) here) here (trailer_is false c))
           go true c f =
-              let n : null (notes_in d (some table) here) ≡ false = sym (quiet_is c) ∙ (rw c at f) in
+              let n : null (notes_in d (Some table) here) ≡ false = sym (quiet_is c) ∙ (rw c at f) in
               let se = split d.element (part body place.trailer (place.end - 1)) in
-              sym (by_table ∙ closed_accepts table (notes_in d (some table) here) here (trailer_is true c) ∙ rw n (and-false (declares 10 (field se 1) (length (segments_of here)) && same (field se 2) (control_of here))))
+              sym (by_table ∙ closed_accepts table (notes_in d (Some table) here) here (trailer_is true c) ∙ rw n (and-false (declares 10 (field se 1) (length (segments_of here)) && same (field se 2) (control_of here))))
 
   -- 4. The set as surveyed.
   -- what is asked for to measure one that is not accepted
   pub measure_ready : {p : SetAt} → p ≡ place → (p ≡ set_at d body p.start) × ((SetIs d body p.start p) × Scoped rows scope)
   measure_ready q = rw q (ap (set_at d body) (sym s.is.starts), (at_start s.is, s.tables))
 
-  module _ (ids : List (List ℕ)) (repeated : Bool) {seen : SeenSet} {mark : ℕ} (c : SeenIs d (table_by ids rows scope) body at seen)
+  module _ (ids : List (List ℕ)) (repeated : Bool) {seen : SeenSet} {mark : Mark} (c : SeenIs d (table_by ids rows scope) body at seen)
       (m : mark ≡ mark_by repeated seen.quiet seen.clean) (q : seen.place ≡ place) where
     marked : MarkIs repeated (report_at d (table_by ids rows scope) body at []) mark
     marked = record { quiet = seen.quiet; untold = c.untold; marked = m ∙ ap (mark_by repeated seen.quiet) c.clean }
 
     -- one that is accepted
-    pub surveyed_accepted : {told : Told} → mark ≡ 0 → told ≡ record { length = sat (15 + length control); segments = 2 }
+    pub surveyed_accepted : {told : Told} → is_accepted mark ≡ true → told ≡ record { length = sat (15 + length control); segments = 2 }
         → SurveyedIs d (table_by ids rows scope) body at repeated (record { mark = mark; block = told; end = seen.place.end })
     surveyed_accepted z w =
         let three : length (field here.header 1) ≡ 3 = ap length (sym (kind_here s.headed)) ∙ header_three s.headed in

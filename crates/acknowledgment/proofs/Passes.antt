@@ -5,6 +5,8 @@ use mathlib.Core.Bool.{Bool, ◌&&◌, false≢true}
 use mathlib.Core.List.{List, [], ◌∷◌, ◌++◌, map, append-nil}
 use native.Mathlib.Nat.{add_assoc}
 use native.Mathlib.Omega.{arith}
+use Rattle.std.specs.Prelude.{Option, None, Some, Ok, Err}
+use Rattle.std.proofs.lemmas.List.{drop-take}
 use borrow.Rule.Slice.PartMut.{mid_of, put_mid}
 use borrow.Author.Tests.{leb-true, ne_eqb}
 use lib.Dec.{leb}
@@ -27,12 +29,11 @@ use Rattle.guides.specs.Encoded.{directory_rows}
 use Rattle.guides.proofs.Chosen.{all_rows}
 use Rattle.envelope.specs.Places.{group_at, next_group}
 use Rattle.envelope.specs.declared.GroupAt.{GroupAt}
-use Rattle.envelope.specs.declared.NextGroup.{NextGroup}
-use Rattle.envelope.specs.declared.NextGroup.TheVariants.{Found, None}
 use Rattle.envelope.specs.declared.Envelope.{Envelope}
 use Rattle.envelope.proofs.Laws.{Groups, no_group, a_group, GroupFound, next_found}
 use Rattle.refusals.specs.Checks.{group_check}
-use Rattle.refusals.specs.declared.GroupCheck.TheVariants as checks
+use Rattle.rules.specs.Refused.{refused}
+use Rattle.rules.specs.declared.Refusal.{Refusal}
 use Rattle.refusals.proofs.Laws.{group_sound, group_refused, groups_first}
 use Rattle.sets.proofs.Refused.{passed}
 use Rattle.sets.proofs.Number.{sets_number}
@@ -41,16 +42,16 @@ use Rattle.verdicts.specs.declared.Tally.{Tally}
 use Rattle.writing.specs.Over.{sat, From}
 use Rattle.writing.proofs.Laws.{Owes, all as owes-all, pay, done, kept}
 use Rattle.acknowledgment.specs.Entries.{body_of, table_of, transaction_of, Answerable, GroupEntries, Surveyable, SurveyedGroup, groups_by, acknowledgments, Entries, no_entry, entries_of, Sound, Enterable, Writable, WroteGroup, Recorded}
+use Rattle.acknowledgment.specs.declared.set_block.Mark.{Mark}
 use Rattle.acknowledgment.specs.declared.transaction.GroupSurvey.{GroupSurvey}
 use Rattle.acknowledgment.specs.declared.transaction.Progress.{Progress}
-use Rattle.acknowledgment.proofs.Headers.{drop_take}
 use Rattle.acknowledgment.proofs.Recorded.{part_all, take_less, group_stays}
 
 -- 1. The next group of those that are left.
 -- It is at g, which starts at an offset.
 record Next (d : Delimiters) (i : Bytes) (at : ℕ) (g : GroupAt) (left : List Group) : Type 0 where
   rest : List Group
-  found : next_group d i at ≡ Found g
+  found : next_group d i at ≡ Some g
   is : left ≡ group_at d i g ∷ rest
   within : g.next < length i
   steps : Groups d i (next_group d i g.next) rest
@@ -65,36 +66,35 @@ empty : (gs : List Group) → length gs ≤ 0 → gs ≡ []
 empty [] h = refl
 empty (g ∷ gs) h = absurd (omega arith)
 
-none_of : {d : Delimiters} {i : Bytes} {s : NextGroup} {gs : List Group} → Groups d i s gs → gs ≡ [] → s ≡ None
+none_of : {d : Delimiters} {i : Bytes} {s : Option GroupAt} {gs : List Group} → Groups d i s gs → gs ≡ [] → s ≡ None
 none_of no_group e = refl
 none_of (a_group h steps) e = absurd (false≢true (ap null e))
 
-next_of : {d : Delimiters} {i : Bytes} {at : ℕ} {s : NextGroup} {left : List Group} → Groups d i s left → next_group d i at ≡ s → 0 < length left → SomeNext d i at left
+next_of : {d : Delimiters} {i : Bytes} {at : ℕ} {s : Option GroupAt} {left : List Group} → Groups d i s left → next_group d i at ≡ s → 0 < length left → SomeNext d i at left
 next_of no_group e h = absurd (omega arith)
 next_of (a_group {g} {gs} within steps) e h = record { group = g; next = record { rest = gs; found = e; is = refl; within = within; steps = steps } }
 
 -- 2. Lists that agree up to some entry.
--- a list with another one from k on
-put_rest : (k : ℕ) (xs ys : List ℕ) → put_mid k (length xs - k) xs ys ≡ take k xs ++ ys
-put_rest k xs ys =
-    ap (λ (l : List ℕ). take k xs ++ (ys ++ l)) (drop_of_length-le (drop k xs) {i = length xs - k} (simp length-drop (omega arith)))
-    ∙ ap (λ (l : List ℕ). take k xs ++ l) (append-nil ys)
+module _ {A : Type 0} where
+  -- a list with another one from k on
+  put_rest : (k : ℕ) (xs ys : List A) → put_mid k (length xs - k) xs ys ≡ take k xs ++ ys
+  put_rest k xs ys =
+      ap (λ (l : List A). take k xs ++ (ys ++ l)) (drop_of_length-le (drop k xs) {i = length xs - k} (simp length-drop (omega arith)))
+      ∙ ap (λ (l : List A). take k xs ++ l) (append-nil ys)
 
--- what stands from k on, and before, in such a list
-drop_rest : (k : ℕ) (xs ys : List ℕ) → k ≤ length xs → drop k (put_mid k (length xs - k) xs ys) ≡ ys
-drop_rest k xs ys h = ap (drop k) (put_rest k xs ys) ∙ drop_at (take k xs) ys k (length-take-le k xs h)
+  -- what stands from k on, and before, in such a list
+  drop_rest : (k : ℕ) (xs ys : List A) → k ≤ length xs → drop k (put_mid k (length xs - k) xs ys) ≡ ys
+  drop_rest k xs ys h = ap (drop k) (put_rest k xs ys) ∙ drop_at (take k xs) ys k (length-take-le k xs h)
 
-take_rest : (k : ℕ) (xs ys : List ℕ) → k ≤ length xs → take k (put_mid k (length xs - k) xs ys) ≡ take k xs
-take_rest k xs ys h = ap (take k) (put_rest k xs ys) ∙ take_at (take k xs) ys k (length-take-le k xs h)
+  take_rest : (k : ℕ) (xs ys : List A) → k ≤ length xs → take k (put_mid k (length xs - k) xs ys) ≡ take k xs
+  take_rest k xs ys h = ap (take k) (put_rest k xs ys) ∙ take_at (take k xs) ys k (length-take-le k xs h)
 
-length_rest : (k : ℕ) (xs ys : List ℕ) → k ≤ length xs → length ys ≡ length xs - k → length (put_mid k (length xs - k) xs ys) ≡ length xs
-length_rest k xs ys h e = ap length (put_rest k xs ys) ∙ omega (arith, length-append (take k xs) ys, length-take-le k xs h)
+  length_rest : (k : ℕ) (xs ys : List A) → k ≤ length xs → length ys ≡ length xs - k → length (put_mid k (length xs - k) xs ys) ≡ length xs
+  length_rest k xs ys h e = ap length (put_rest k xs ys) ∙ omega (arith, length-append (take k xs) ys, length-take-le k xs h)
 
--- lists that agree up to k + n agree up to n from k on
-agree_from : (k n : ℕ) (xs ys : List ℕ) → take (k + n) xs ≡ take (k + n) ys → take n (drop k xs) ≡ take n (drop k ys)
-agree_from k n xs ys e =
-    let z : k + n - k ≡ n = omega arith in
-    rw z at (sym (drop_take k (k + n) xs) ∙ ap (drop k) e ∙ drop_take k (k + n) ys)
+  -- lists that agree up to k + n agree up to n from k on
+  agree_from : (k n : ℕ) (xs ys : List A) → take (k + n) xs ≡ take (k + n) ys → take n (drop k xs) ≡ take n (drop k ys)
+  agree_from k n xs ys e = sym (drop-take k n xs) ∙ ap (drop k) e ∙ drop-take k n ys
 
 -- 3. The first pass.
 -- where none of 9 to 13 applies to a group, none of 11 to 13 does
@@ -104,14 +104,14 @@ sets_pass d g e = let s = silent (group_rules d g) tt e in rw (s.1.1.0, s.1.1.1.
 
 -- The groups that are left start at a place. Those before it have these entries, and none of 9 to 13 applies to them; their 997s have n bytes.
 -- There is room for as many entries as size.
-pub record Surveying (d : Delimiters) (i : Bytes) (e : Envelope) (size : ℕ) (starts marks links : List ℕ) (at groups entries n : ℕ) : Type 0 where
+pub record Surveying (d : Delimiters) (i : Bytes) (e : Envelope) (size : ℕ) (starts : List ℕ) (marks : List Mark) (links : List ℕ) (at groups entries n : ℕ) : Type 0 where
   pub left : List Group
   pub steps : Groups d i (next_group d i at) left
   pub counted : groups + length left ≡ e.groups
   pub passed : first (groups_rules d (groups_by d i)) ≡ first (groups_rules d left)
   pub measured : sat (n + length (out d (transaction_sets (groups + 1) (map (group_report d) left)))) ≡ sat (length (out d (acknowledgments d i)))
-  pub owed : (S M : List ℕ) → take entries S ≡ take entries starts → take entries M ≡ take entries marks
-      → Entries d i S M entries (next_group d i at) left → Entries d i S M 0 (Found e.first) (groups_by d i)
+  pub owed : (S : List ℕ) (M : List Mark) → take entries S ≡ take entries starts → take entries M ≡ take entries marks
+      → Entries d i S M entries (next_group d i at) left → Entries d i S M 0 (Some e.first) (groups_by d i)
   pub linked : Linked links entries
   pub long : n < 18446744073709551616
   pub room : 12 * entries ≤ at + 12 * groups
@@ -122,7 +122,7 @@ pub record Surveying (d : Delimiters) (i : Bytes) (e : Envelope) (size : ℕ) (s
   pub slots : length links ≡ 1024 + 4 * size
 
 -- the first group is where the first step finds it
-first_found : {d : Delimiters} {i : Bytes} {e : Envelope} → Sound d i e → next_group d i e.first.gs ≡ Found e.first
+first_found : {d : Delimiters} {i : Bytes} {e : Envelope} → Sound d i e → next_group d i e.first.gs ≡ Some e.first
 first_found {d} {i} s = ap (next_group d i) (next_found d i _ s.envelope.starts).starts ∙ s.envelope.starts
 
 -- at most sixteen groups
@@ -134,7 +134,7 @@ at_most {d} {i} s =
     let within = and_right named (between 1 16 (length gs)) (and_left (named && between 1 16 (length gs)) (all is_whole_group gs) s.envelope.envelope) in
     rw s.envelope.counted (leb-true (length gs) 16 (and_right (leb 1 (length gs)) (leb (length gs) 16) within))
 
-pub surveying_start : {d : Delimiters} {i : Bytes} {e : Envelope} {valid : List Bool} {ids : List (List ℕ)} {rows : Guide} {starts marks links : List ℕ}
+pub surveying_start : {d : Delimiters} {i : Bytes} {e : Envelope} {valid : List Bool} {ids : List (List ℕ)} {rows : Guide} {starts : List ℕ} {marks : List Mark} {links : List ℕ}
     → Enterable d i e valid ids rows starts marks links → Surveying d i e (length starts) starts marks links e.first.gs 0 0 0
 surveying_start {d} {i} {e} p =
     let found = first_found p.sound in
@@ -156,21 +156,24 @@ surveying_start {d} {i} {e} p =
       slots = room.linked;
     }
 
-module _ {d : Delimiters} {i : Bytes} {e : Envelope} {size : ℕ} {starts marks links : List ℕ} {at groups entries n : ℕ}
+module _ {d : Delimiters} {i : Bytes} {e : Envelope} {size : ℕ} {starts : List ℕ} {marks : List Mark} {links : List ℕ} {at groups entries n : ℕ}
     (s : Surveying d i e size starts marks links at groups entries n) where
   -- a group is left
   surveying_next : groups < e.groups → SomeNext d i at s.left
   surveying_next h = next_of s.steps refl (omega (arith, s.counted))
 
   -- it is refused: that is the first refusal of all groups
-  pub surveying_refused : {m : ℕ} → groups < e.groups → group_check d i at ≡ checks.Refused m → (m ≡ first (groups_rules d (groups_by d i))) × (m ≡ 0 → ⊥)
-  surveying_refused {m} h q =
+  pub surveying_refused : {r : Refusal} → groups < e.groups → group_check d i at ≡ Err r
+      → (r ≡ refused (first (groups_rules d (groups_by d i)))) × (first (groups_rules d (groups_by d i)) ≡ 0 → ⊥)
+  surveying_refused h q =
       let x = surveying_next h in
       let due = group_refused d i at x.next.found q in
-      (rw (s.passed, x.next.is, groups_first d (group_at d i x.group) x.next.rest, ← due.0, ne_eqb m 0 due.1), due.1)
+      let same : first (groups_rules d (groups_by d i)) ≡ first (group_rules d (group_at d i x.group)) =
+      s.passed ∙ ap (λ (l : List Group). first (groups_rules d l)) x.next.is ∙ groups_first d (group_at d i x.group) x.next.rest ∙ rw (ne_eqb (first (group_rules d (group_at d i x.group))) 0 due.1) in
+      (due.0 ∙ ap refused (sym same), λ z. due.1 (sym same ∙ z))
 
   -- it is not refused
-  module _ {g : GroupAt} (h : groups < e.groups) (sound : Sound d i e) (q : group_check d i at ≡ checks.Sound g) where
+  module _ {g : GroupAt} (h : groups < e.groups) (sound : Sound d i e) (q : group_check d i at ≡ Ok g) where
     passes : Next d i at g s.left × (first (group_rules d (group_at d i g)) ≡ 0)
     passes =
         let x = surveying_next h in
@@ -235,7 +238,7 @@ module _ {d : Delimiters} {i : Bytes} {e : Envelope} {size : ℕ} {starts marks 
     }
 
     -- its entries are there too
-    pub entries_next : {s' m' l' : List ℕ} {r : GroupSurvey} → SurveyedGroup d i g entries s' m' l' r → entries + r.entries ≤ size
+    pub entries_next : {s' : List ℕ} {m' : List Mark} {l' : List ℕ} {r : GroupSurvey} → SurveyedGroup d i g entries s' m' l' r → entries + r.entries ≤ size
     entries_next w =
         omega (
           arith,
@@ -246,7 +249,7 @@ module _ {d : Delimiters} {i : Bytes} {e : Envelope} {size : ℕ} {starts marks 
         )
 
     -- after it was looked at
-    pub surveying_turn : {s' m' l' : List ℕ} {r : GroupSurvey} {n' : ℕ} → SurveyedGroup d i g entries s' m' l' r
+    pub surveying_turn : {s' : List ℕ} {m' : List Mark} {l' : List ℕ} {r : GroupSurvey} {n' : ℕ} → SurveyedGroup d i g entries s' m' l' r
         → length s' ≡ length (mid_of entries (length starts - entries) starts) → length m' ≡ length (mid_of entries (length marks - entries) marks) → length l' ≡ length links
         → n' ≡ sat (n + r.length)
         → Surveying d i e size (put_mid entries (length starts - entries) starts s') (put_mid entries (length marks - entries) marks m') l' g.next (groups + 1) (entries + r.entries) n'
@@ -308,7 +311,7 @@ module _ {d : Delimiters} {i : Bytes} {e : Envelope} {size : ℕ} {starts marks 
   -- all groups were looked at
   pub surveying_end : e.groups ≤ groups
       → (first (groups_rules d (groups_by d i)) ≡ 0)
-      × ((n ≡ sat (length (out d (acknowledgments d i)))) × Entries d i starts marks 0 (Found e.first) (groups_by d i))
+      × ((n ≡ sat (length (out d (acknowledgments d i)))) × Entries d i starts marks 0 (Some e.first) (groups_by d i))
   unfolding groups_rules first transaction_sets out
   surveying_end h =
       let none : s.left ≡ [] = empty s.left (omega (arith, s.counted)) in (
@@ -318,23 +321,23 @@ module _ {d : Delimiters} {i : Bytes} {e : Envelope} {size : ℕ} {starts marks 
 
 -- 4. The second pass.
 -- The entries that are left, and the next group.
-pub record NextEntries (d : Delimiters) (i : Bytes) (starts marks : List ℕ) (k at : ℕ) (left : List Group) : Type 0 where
+pub record NextEntries (d : Delimiters) (i : Bytes) (starts : List ℕ) (marks : List Mark) (k at : ℕ) (left : List Group) : Type 0 where
   pub group : GroupAt
   pub rest : List Group
   pub sets : Tally
-  pub found : next_group d i at ≡ Found group
+  pub found : next_group d i at ≡ Some group
   pub is : left ≡ group_at d i group ∷ rest
   pub recorded : GroupEntries d i group sets (drop k starts) (drop k marks)
   pub entries : Entries d i starts marks (k + sets.received + 1) (next_group d i group.next) rest
 
-next_entries : {d : Delimiters} {i : Bytes} {starts marks : List ℕ} {k at : ℕ} {s : NextGroup} {left : List Group} → Entries d i starts marks k s left
+next_entries : {d : Delimiters} {i : Bytes} {starts : List ℕ} {marks : List Mark} {k at : ℕ} {s : Option GroupAt} {left : List Group} → Entries d i starts marks k s left
     → next_group d i at ≡ s → 0 < length left → NextEntries d i starts marks k at left
 next_entries no_entry e h = absurd (omega arith)
 next_entries (entries_of {g = g} {gs} {sets} recorded entries) e h =
     record { group = g; rest = gs; sets = sets; found = e; is = refl; recorded = recorded; entries = entries }
 
 -- The 997s of the groups that are left are still owed: o is the buffer before the first was written, after n bytes, and o₁ the present one.
-pub record Writing (d : Delimiters) (i : Bytes) (e : Envelope) (starts marks : List ℕ) (n : ℕ) (p : Progress) (o o₁ : Bytes) : Type 0 where
+pub record Writing (d : Delimiters) (i : Bytes) (e : Envelope) (starts : List ℕ) (marks : List Mark) (n : ℕ) (p : Progress) (o o₁ : Bytes) : Type 0 where
   pub left : List Group
   pub entries : Entries d i starts marks p.entry (next_group d i p.at) left
   pub counted : p.number + length left ≡ e.groups + 1
@@ -343,7 +346,7 @@ pub record Writing (d : Delimiters) (i : Bytes) (e : Envelope) (starts marks : L
   pub stays : length o₁ ≡ length o
   pub small : length o < 9223372036854775808
 
-pub writing_start : {d : Delimiters} {i : Bytes} {e : Envelope} {ids : List (List ℕ)} {rows : Guide} {starts marks : List ℕ} {n : ℕ} {o : Bytes}
+pub writing_start : {d : Delimiters} {i : Bytes} {e : Envelope} {ids : List (List ℕ)} {rows : Guide} {starts : List ℕ} {marks : List Mark} {n : ℕ} {o : Bytes}
     → Recorded d i e ids rows starts marks → n < 18446744073709551616 → length o < 9223372036854775808
     → Writing d i e starts marks n (record { at = e.first.gs; entry = 0; number = 1; length = n }) o o
 writing_start {d} {i} {n = n} {o} r h small = record {
@@ -356,7 +359,7 @@ writing_start {d} {i} {n = n} {o} r h small = record {
   small = small;
 }
 
-module _ {d : Delimiters} {i : Bytes} {e : Envelope} {starts marks : List ℕ} {n : ℕ} {p : Progress} {o o₁ : Bytes}
+module _ {d : Delimiters} {i : Bytes} {e : Envelope} {starts : List ℕ} {marks : List Mark} {n : ℕ} {p : Progress} {o o₁ : Bytes}
     (w : Writing d i e starts marks n p o o₁) where
   -- a group is left
   pub writing_next : p.number ≤ e.groups → NextEntries d i starts marks p.entry p.at w.left

@@ -2,11 +2,10 @@
 use mathlib.Core.Path.{◌≡◌, refl, sym, ap, ◌∙◌}
 use mathlib.Core.Bool.{Bool, true, false, ◌||◌, or-true, false≢true}
 use mathlib.Core.List.{List, [], ◌∷◌, ◌++◌, map-append}
-use mathlib.Core.Option.{Option}
+use Rattle.std.specs.Prelude.{Option}
 use Prim.Native.Nat.{ℕ, zero, suc, ◌+◌, ◌≤◌}
 use native.Mathlib.Numerals.{add-one}
 use borrow.Author.Tests.{not-false}
-use lib.Dec.{eqb}
 use lib.ListN.{length, drop}
 use Rattle.rules.specs.Base.{Bytes, ascii, Rule, ◌⇒◌, every, null, any, same, member}
 use Rattle.rules.specs.Cutting.{segments}
@@ -19,7 +18,8 @@ use Rattle.rules.proofs.Logic.{Silent}
 use Rattle.segments.proofs.Pieces.{segments_none}
 use Rattle.sets.specs.Places.{set_at, control_at, controls_at}
 use Rattle.sets.proofs.Sets.{SetIs}
-use Rattle.acknowledgment.specs.Surveys.{report_at, reports, remaining, mark_by, is_repeated, is_quiet, MarkIs, acceptance}
+use Rattle.acknowledgment.specs.declared.set_block.Mark.{Mark}
+use Rattle.acknowledgment.specs.Surveys.{report_at, reports, remaining, mark_by, is_accepted, is_repeated, is_quiet, MarkIs, acceptance}
 
 -- 1. A report asks of the ST02s before it only which they are: their order makes no difference.
 report_same : (d : Delimiters) (t : Option Table) (es fs : List Bytes) (s : Set) → member (control_of s) es ≡ member (control_of s) fs
@@ -112,7 +112,7 @@ module _ (d : Delimiters) (t : Option Table) (earlier : List Bytes) (s : Set) (c
   clean_block = short_block (set_report d t earlier s) clean_notes (no_list _ clean)
 
 -- 4. Marks.
-pub mark_repeats : {repeated : Bool} {r : SetReport} {mark : ℕ} → MarkIs repeated r mark → is_repeated mark ≡ repeated
+pub mark_repeats : {repeated : Bool} {r : SetReport} {mark : Mark} → MarkIs repeated r mark → is_repeated mark ≡ repeated
 mark_repeats {repeated} {r} m = rw m.marked (go repeated m.quiet (accepted r))
   where
     go : (b q c : Bool) → is_repeated (mark_by b q c) ≡ b
@@ -122,7 +122,7 @@ mark_repeats {repeated} {r} m = rw m.marked (go repeated m.quiet (accepted r))
     go false true false = refl
     go false false false = refl
 
-pub mark_untold : {repeated : Bool} {r : SetReport} {mark : ℕ} → MarkIs repeated r mark → is_quiet mark ≡ true → r.notes ≡ []
+pub mark_untold : {repeated : Bool} {r : SetReport} {mark : Mark} → MarkIs repeated r mark → is_quiet mark ≡ true → r.notes ≡ []
 mark_untold {repeated} {r} m e = m.untold (go repeated m.quiet (accepted r) (rw m.marked at e))
   where
     go : (b q c : Bool) → is_quiet (mark_by b q c) ≡ true → q ≡ true
@@ -131,18 +131,18 @@ mark_untold {repeated} {r} m e = m.untold (go repeated m.quiet (accepted r) (rw 
     go false false true e = e
     go false false false e = e
 
-module _ (d : Delimiters) (t : Option Table) (s : Set) (earlier : List Bytes) {mark : ℕ}
+module _ (d : Delimiters) (t : Option Table) (s : Set) (earlier : List Bytes) {mark : Mark}
     (m : MarkIs (member (control_of s) earlier) (set_report d t [] s) mark) where
-  pub mark_accepts : eqb mark 0 ≡ accepted (set_report d t earlier s)
+  pub mark_accepts : is_accepted mark ≡ accepted (set_report d t earlier s)
   unfolding any
   mark_accepts = rw m.marked (go (member (control_of s) earlier) refl)
     where
-      by_codes : (q b : Bool) → eqb (mark_by false q b) 0 ≡ b
+      by_codes : (q b : Bool) → is_accepted (mark_by false q b) ≡ b
       by_codes q true = refl
       by_codes true false = refl
       by_codes false false = refl
 
-      by_use : (q b : Bool) → eqb (mark_by true q b) 0 ≡ false
+      by_use : (q b : Bool) → is_accepted (mark_by true q b) ≡ false
       by_use true b = refl
       by_use false b = refl
 
@@ -151,10 +151,10 @@ module _ (d : Delimiters) (t : Option Table) (s : Set) (earlier : List Bytes) {m
       used false e f = refl
 
       go : (b : Bool) → member (control_of s) earlier ≡ b
-          → eqb (mark_by b m.quiet (accepted (set_report d t [] s))) 0 ≡ accepted (set_report d t earlier s)
+          → is_accepted (mark_by b m.quiet (accepted (set_report d t [] s))) ≡ accepted (set_report d t earlier s)
       go true e = by_use m.quiet (accepted (set_report d t [] s)) ∙ used (accepted (set_report d t earlier s)) refl e
       go false e = by_codes m.quiet (accepted (set_report d t [] s)) ∙ ap accepted (report_same d t [] earlier s (sym e))
 
   -- the block of a set that is marked as accepted
-  pub mark_block : mark ≡ 0 → block (set_report d t earlier s) ≡ acceptance s
-  mark_block e = clean_block d t earlier s (sym mark_accepts ∙ rw e)
+  pub mark_block : is_accepted mark ≡ true → block (set_report d t earlier s) ≡ acceptance s
+  mark_block e = clean_block d t earlier s (sym mark_accepts ∙ e)

@@ -1,14 +1,12 @@
 -- The look at the sets of a group, set by set.
-use Rattle.std.specs.Prelude.{if◌then◌else◌}
+use Rattle.std.specs.Prelude.{if◌then◌else◌, Option, Some, is_none}
 use mathlib.Core.Path.{◌≡◌, refl, sym, ap, ◌∙◌}
 use mathlib.Core.Bool.{Bool, true, false}
 use mathlib.Core.List.{List, [], ◌∷◌, ◌++◌}
-use mathlib.Core.Option.{Option}
 use Prim.Native.Nat.{ℕ, suc, ◌+◌, ◌-◌, ◌<◌, ◌≤◌}
 use native.Mathlib.Numerals.{add-one}
 use native.Mathlib.Omega.{arith}
 use borrow.Author.Count.{below_none, below_more}
-use lib.Dec.{eqb}
 use lib.ListN.{length, take, drop, get_or, set, length-set}
 use lib.Seq.{take-suc-set, take-set-le, get_or-set_same, get_or-set_other}
 use Rattle.rules.specs.Base.{Bytes, member, keep}
@@ -30,28 +28,28 @@ use Rattle.sets.specs.Places.{set_at, control_at, controls_at}
 use Rattle.sets.specs.declared.SetAt.{SetAt}
 use Rattle.sets.proofs.Sets.{SetIs, set_next, clean_starts}
 use Rattle.sets.proofs.Refused.{good}
-use Rattle.register.specs.declared.Found.{Found}
-use Rattle.register.specs.declared.Found.TheVariants.{Free}
-use Rattle.register.specs.Trees.{slot_of, search, is_repeated, linked_by}
+use Rattle.register.specs.Trees.{slot_of, search, linked_by}
 use Rattle.register.proofs.Entered.{Linked, Entered, entered_none, entered_finds, entered_inside, entered_next}
 use Rattle.writing.specs.Over.{sat}
 use Rattle.notes.specs.declared.Told.{Told}
 use Rattle.acknowledgment.specs.Writers.{Measures}
-use Rattle.acknowledgment.specs.Surveys.{Room, EnteredNext, set_here, report_at, reports, remaining, MarkIs, Marked, Headed, Seen, acceptances, Surveyed, Open, Cleared}
+use Rattle.acknowledgment.specs.declared.set_block.Mark.{Mark}
+use Rattle.acknowledgment.specs.declared.set_block.Mark.TheVariants.{Accepted}
+use Rattle.acknowledgment.specs.Surveys.{Room, EnteredNext, set_here, report_at, reports, remaining, is_accepted, MarkIs, Marked, Headed, Seen, acceptances, Surveyed, Open, Cleared}
 use Rattle.acknowledgment.proofs.Reports.{remaining_all, remaining_none, remaining_next, drop_next, mark_accepts}
 use Rattle.acknowledgment.proofs.Turns.{Sofar, sofar_end, sofar_measured, seen_next}
 
 -- 1. A set is entered.
-module _ {d : Delimiters} {body : Bytes} {first : ℕ} {starts links : List ℕ} {k at : ℕ} {control : Bytes} {r : Found}
+module _ {d : Delimiters} {body : Bytes} {first : ℕ} {starts links : List ℕ} {k at : ℕ} {control : Bytes} {r : Option ℕ}
     (e : Entered d body first starts links k) (room : Room first starts links k at)
     (p : control ≡ control_at d body at) (q : r ≡ search d body first (set starts k at) links control) where
   searched : r ≡ search d body first (set starts k at) links (control_at d body at)
   searched = rw (← p) q
 
-  pub slot_inside : {slot : ℕ} → r ≡ Free slot → slot < length links
+  pub slot_inside : {slot : ℕ} → r ≡ Some slot → slot < length links
   slot_inside = entered_inside e (omega (arith, room.number)) room.start room.link at r searched
 
-  pub entered_so : EnteredNext d body first starts k at (is_repeated r) (set starts k at) (linked_by r (first + k) links)
+  pub entered_so : EnteredNext d body first starts k at (is_none r) (set starts k at) (linked_by r (first + k) links)
   entered_so = record {
     repeated = entered_finds e (omega (arith, room.number)) room.start room.link at r searched;
     stored = refl;
@@ -67,14 +65,14 @@ accepted_next r rs a true e = rw (← e) (omega arith)
 accepted_next r rs a false e = rw (← e)
 
 -- one more where the last mark says so
-accepting_next : (ms : List ℕ) (m a : ℕ) → a ≡ acceptances ms → (if eqb m 0 then a + 1 else a) ≡ acceptances (ms ++ m ∷ [])
+accepting_next : (ms : List Mark) (m : Mark) (a : ℕ) → a ≡ acceptances ms → (if is_accepted m then a + 1 else a) ≡ acceptances (ms ++ m ∷ [])
 unfolding acceptances
-accepting_next [] m a e = rw e (go (eqb m 0))
+accepting_next [] m a e = rw e (go (is_accepted m))
   where
     go : (b : Bool) → (if b then 0 + 1 else 0) ≡ (if b then 1 else 0)
     go true = refl
     go false = refl
-accepting_next (x ∷ ms) m a e = rw e (go (eqb x 0) (eqb m 0) (acceptances ms) _ (accepting_next ms m (acceptances ms) refl))
+accepting_next (x ∷ ms) m a e = rw e (go (is_accepted x) (is_accepted m) (acceptances ms) _ (accepting_next ms m (acceptances ms) refl))
   where
     go : (b c : Bool) (r s : ℕ) → (if c then r + 1 else r) ≡ s
         → (if c then (if b then suc r else r) + 1 else (if b then suc r else r)) ≡ (if b then suc s else s)
@@ -84,13 +82,13 @@ accepting_next (x ∷ ms) m a e = rw e (go (eqb x 0) (eqb m 0) (acceptances ms) 
     go false false r s p = p
 
 -- Of k sets of a group, a are accepted; the next one starts at a place.
-pub record Seeing (d : Delimiters) (table : Set → Option Table) (body : Bytes) (first : ℕ) (starts marks links : List ℕ) (k a at : ℕ) : Type 0 where
+pub record Seeing (d : Delimiters) (table : Set → Option Table) (body : Bytes) (first : ℕ) (starts : List ℕ) (marks : List Mark) (links : List ℕ) (k a at : ℕ) : Type 0 where
   pub rest : drop k (reports d table body) ≡ remaining d table body (take k starts) at
   pub received : k + length (sets_of (segments d (drop at body))) ≡ length (sets_of (segments d body))
   pub allowed : a + accepted_in (remaining d table body (take k starts) at) ≡ accepted_in (reports d table body)
   pub clean : outside (segments d (drop at body)) ≡ false
   pub headers : good d (sets_of (segments d (drop at body))) ≡ true
-  pub seen : (j : ℕ) → j < k → Seen d table body (take j starts) j (get_or starts j 0) (get_or marks j 0)
+  pub seen : (j : ℕ) → j < k → Seen d table body (take j starts) j (get_or starts j 0) (get_or marks j Accepted)
   pub entered : Entered d body first starts links k
   pub few : first + length (sets_of (segments d body)) < 65535
   pub among : a ≤ k
@@ -99,7 +97,7 @@ pub record Seeing (d : Delimiters) (table : Set → Option Table) (body : Bytes)
   pub marked : length (sets_of (segments d body)) < length marks
   pub linked : slot_of (first + length (sets_of (segments d body))) 0 ≤ length links
 
-pub seeing_start : {d : Delimiters} (table : Set → Option Table) {body : Bytes} {valid : List Bool} {rows : Guide} {scope : Scope} {first : ℕ} {starts marks links : List ℕ}
+pub seeing_start : {d : Delimiters} (table : Set → Option Table) {body : Bytes} {valid : List Bool} {rows : Guide} {scope : Scope} {first : ℕ} {starts : List ℕ} {marks : List Mark} {links : List ℕ}
     → Open d body valid rows scope → Cleared d body first starts marks links → Seeing d table body first starts marks links 0 0 0
 unfolding acceptances
 seeing_start {d} table {body} {first = first} {starts = starts} {links = links} o c = record {
@@ -118,7 +116,7 @@ seeing_start {d} table {body} {first = first} {starts = starts} {links = links} 
   linked = c.linked;
 }
 
-module _ {d : Delimiters} {table : Set → Option Table} {body : Bytes} {first : ℕ} {starts marks links : List ℕ} {k a at : ℕ}
+module _ {d : Delimiters} {table : Set → Option Table} {body : Bytes} {first : ℕ} {starts : List ℕ} {marks : List Mark} {links : List ℕ} {k a at : ℕ}
     (s : Seeing d table body first starts marks links k a at) where
   -- the set at the place
   pub seeing_set : {r : SetAt} → at < length body → r ≡ set_at d body at → SetIs d body at r
@@ -153,28 +151,28 @@ module _ {d : Delimiters} {table : Set → Option Table} {body : Bytes} {first :
       )
 
   -- what was seen stays so
-  seen_stays : (m : ℕ) (j : ℕ) → j < k
-      → Seen d table body (take j (set starts k at)) j (get_or (set starts k at) j 0) (get_or (set marks k m) j 0)
+  seen_stays : (m : Mark) (j : ℕ) → j < k
+      → Seen d table body (take j (set starts k at)) j (get_or (set starts k at) j 0) (get_or (set marks k m) j Accepted)
   seen_stays m j h =
       rw (
         take-set-le j starts k at (omega arith),
         get_or-set_other starts k j at 0 (λ e. omega arith),
-        get_or-set_other marks k j m 0 (λ e. omega arith),
+        get_or-set_other marks k j m Accepted (λ e. omega arith),
       )
       (s.seen j h)
 
-  seen_here : (m : ℕ) → (k < length starts) × (k < length marks) → at < length body → Marked d table body at (controls_at d body (take k starts)) m
-      → Seen d table body (take k (set starts k at)) k (get_or (set starts k at) k 0) (get_or (set marks k m) k 0)
+  seen_here : (m : Mark) → (k < length starts) × (k < length marks) → at < length body → Marked d table body at (controls_at d body (take k starts)) m
+      → Seen d table body (take k (set starts k at)) k (get_or (set starts k at) k 0) (get_or (set marks k m) k Accepted)
   seen_here m room h e =
       rw (
         take-set-le k starts k at (omega arith),
         get_or-set_same starts k at 0 room.0,
-        get_or-set_same marks k m 0 room.1,
+        get_or-set_same marks k m Accepted room.1,
       )
       (record { headed = seeing_headed h; clean = s.clean; rest = s.rest; marked = e })
 
   -- its mark is right after those before it
-  pub seeing_marked : {starts' links' : List ℕ} {repeated : Bool} {m : ℕ} → at < length body
+  pub seeing_marked : {starts' links' : List ℕ} {repeated : Bool} {m : Mark} → at < length body
       → EnteredNext d body first starts k at repeated starts' links' → MarkIs repeated (report_at d table body at []) m
       → Marked d table body at (controls_at d body (take k starts)) m
   seeing_marked h e f = rw ((seeing_set h refl).control, ← e.repeated) f
@@ -185,7 +183,7 @@ module _ {d : Delimiters} {table : Set → Option Table} {body : Bytes} {first :
   seeing_used h e = rw (seeing_set h refl).control e.repeated
 
   -- its block is measured
-  pub seeing_measured : {m n l n' l' : ℕ} {told : Told} → at < length body → Marked d table body at (controls_at d body (take k starts)) m
+  pub seeing_measured : {m : Mark} {n l n' l' : ℕ} {told : Told} → at < length body → Marked d table body at (controls_at d body (take k starts)) m
       → Measures d (block (report_at d table body at (controls_at d body (take k starts)))) told
       → n' ≡ sat (n + told.length) → l' ≡ sat (l + told.segments)
       → Sofar d (reports d table body) [] [] n l k → Sofar d (reports d table body) [] [] n' l' (k + 1)
@@ -193,9 +191,9 @@ module _ {d : Delimiters} {table : Set → Option Table} {body : Bytes} {first :
       let here : Seen d table body (take k starts) k at m = record { headed = seeing_headed h; clean = s.clean; rest = s.rest; marked = marked } in
       sofar_measured sofar (seen_next here) w nn ll
 
-  pub seeing_turn : {starts' links' : List ℕ} {repeated : Bool} {m a' : ℕ} → at < length body
+  pub seeing_turn : {starts' links' : List ℕ} {repeated : Bool} {m : Mark} {a' : ℕ} → at < length body
       → EnteredNext d body first starts k at repeated starts' links' → MarkIs repeated (report_at d table body at []) m
-      → a' ≡ (if eqb m 0 then a + 1 else a) → length links' ≡ length links
+      → a' ≡ (if is_accepted m then a + 1 else a) → length links' ≡ length links
       → Seeing d table body first starts' (set marks k m) links' (k + 1) a' (set_at d body at).end
   seeing_turn {starts'} {links'} {repeated} {m} {a'} h e f g p =
       let i = seeing_set h refl in
@@ -211,13 +209,13 @@ module _ {d : Delimiters} {table : Set → Option Table} {body : Bytes} {first :
         received = omega (arith, ap length i.first, s.received);
         allowed =
             rw (e.stored, more, g)
-            (accepted_next (report_at d table body at earlier) onward a (eqb m 0) (mark_accepts d (table (set_here d body at)) (set_here d body at) earlier marks_here) ∙ (rw next at s.allowed));
+            (accepted_next (report_at d table body at earlier) onward a (is_accepted m) (mark_accepts d (table (set_here d body at)) (set_here d body at) earlier marks_here) ∙ (rw next at s.allowed));
         clean = sym i.strays ∙ s.clean;
         headers = all_tail (λ x. good_st d x.header) _ _ (rw i.first at s.headers);
         seen = rw e.stored (below_more _ k (seen_stays m) (seen_here m room.1 h marks_here));
         entered = e.entered;
         few = s.few;
-        among = rw g (either (λ (x : ℕ). x ≤ k + 1) (eqb m 0) (omega (arith, s.among)) (omega (arith, s.among)));
+        among = rw g (either (λ (x : ℕ). x ≤ k + 1) (is_accepted m) (omega (arith, s.among)) (omega (arith, s.among)));
         counted = rw (g, marked) (accepting_next (take k marks) m a s.counted);
         places = rw (e.stored, length-set starts k at) s.places;
         marked = rw (length-set marks k m) s.marked;

@@ -1,9 +1,10 @@
 -- One 997: what comes before the blocks of the sets, the blocks, and what comes after them.
 use Prim.Native.Nat.{ℕ, ◌+◌, ◌-◌, ◌≤◌, ◌<◌}
 use mathlib.Core.Path.{◌≡◌, refl, ap, ◌∙◌, fun_ext}
-use mathlib.Core.Bool.{Bool, true, false}
+use mathlib.Core.Bool.{Bool}
 use mathlib.Core.List.{List, [], ◌∷◌, ◌++◌, append_assoc}
-use mathlib.Core.Option.{Option}
+use Rattle.std.specs.Prelude.{Option, Some}
+use Rattle.std.specs.Bool.{then_some}
 use native.Mathlib.Omega.{arith}
 use lib.ListN.{length, get_or, set, length-append, length-take, length-drop}
 use Rattle.rules.specs.Base.{Bytes, ascii}
@@ -25,8 +26,7 @@ use Rattle.guides.specs.Encoded.{directory_rows}
 use Rattle.guides.proofs.Chosen.{all_rows, table_chosen, table_stands, table_orderly}
 use Rattle.text.specs.Text.{part}
 use Rattle.envelope.specs.declared.GroupAt.{GroupAt}
-use Rattle.envelope.specs.declared.NextGroup.TheVariants.{Found}
-use Rattle.envelope.specs.Places.{end_of, trailer_in, group_at, group_ending, next_group}
+use Rattle.envelope.specs.Places.{end_of, group_at, group_ending, next_group}
 use Rattle.envelope.proofs.Laws.{next_found, group_again}
 use Rattle.register.proofs.Entered.{Linked}
 use Rattle.tables.specs.Reading.{Guide}
@@ -38,11 +38,14 @@ use Rattle.writing.specs.Over.{sat, From}
 use Rattle.writing.proofs.Laws.{seq}
 use Rattle.writing.proofs.Segments.{one, then as onward}
 use Rattle.notes.specs.declared.Told.{Told}
+use Rattle.acknowledgment.specs.declared.set_block.Mark.{Mark}
+use Rattle.acknowledgment.specs.declared.set_block.Mark.TheVariants.{GroupEnd}
 use Rattle.acknowledgment.specs.Writers.{Measures, beginning, ending}
 use Rattle.acknowledgment.specs.Received.{Scoped, Ordered, table_by}
 use Rattle.acknowledgment.specs.Surveys.{reports, Looked, Surveyed, Open, Cleared, tally_of}
 use Rattle.acknowledgment.specs.Entries.{body_of, table_of, transaction_of, Answerable, GroupEntries, Surveyable, SurveyedGroup}
 use Rattle.acknowledgment.specs.declared.survey.Survey.{Survey}
+use Rattle.acknowledgment.proofs.Blocks.{trailer_by}
 use Rattle.acknowledgment.proofs.Recorded.{tally_is, group_ended}
 
 -- 1. Parts of a text: their length, and two segments one after the other.
@@ -59,12 +62,8 @@ two d s₁ s₂ a b = seq a (one d s₂ b)
 group_at_lem : (d : Delimiters) (i : Bytes) (g : GroupAt) {gs body ge : Bytes}
     → gs ≡ part i g.gs g.gs_end → body ≡ part i g.body g.body_end → ge ≡ part i g.body_end g.ge_end
     → group_at d i g
-    ≡ record { header = split d.element gs; body = segments d body; trailer = trailer_if g.closed (split d.element ge) }
-group_at_lem d i g p q r = rw (p, q, r, trailer_at g.closed)
-  where
-    trailer_at : (c : Bool) → trailer_in d i g.body_end g.ge_end c ≡ trailer_if c (split d.element (part i g.body_end g.ge_end))
-    trailer_at true = refl
-    trailer_at false = refl
+    ≡ record { header = split d.element gs; body = segments d body; trailer = trailer_if d.element (then_some g.closed ge) }
+group_at_lem d i g p q r = rw (p, q, r, trailer_by)
 
 -- ST to AK9, by the reports of the sets and their numbers
 told_is : (d : Delimiters) (st02 : Bytes) (g : Group) {table : Set → Option Table} (n : Tally) {scope : Scope} → scope ≡ scope_in g.header → table_in g.header ≡ table
@@ -81,7 +80,7 @@ module _ (d : Delimiters) (i : Bytes) (g : GroupAt) {gs body ge : Bytes} {tally 
     (p : gs ≡ part i g.gs g.gs_end) (q : body ≡ part i g.body g.body_end) (r : ge ≡ part i g.body_end g.ge_end)
     (k : scope ≡ scope_in (split d.element gs))
     (received : tally.received ≡ length (reports d (table_of d i g) body)) (allowed : tally.accepted ≡ accepted_in (reports d (table_of d i g) body))
-    (u : summary ≡ summary_of scope (split d.element gs) (trailer_if g.closed (split d.element ge)) tally) where
+    (u : summary ≡ summary_of scope (split d.element gs) (trailer_if d.element (then_some g.closed ge)) tally) where
   abbrev set_blocks : List Segment
   set_blocks = blocks (reports d (table_of d i g) body)
 
@@ -142,7 +141,7 @@ module _ (d : Delimiters) (i : Bytes) (g : GroupAt) {gs body ge : Bytes} {tally 
 pub body_long : (d : Delimiters) (i : Bytes) (g : GroupAt) → Answerable d i g → length (body_of i g) ≡ g.body_end - g.body
 body_long d i g a = simp (length-take, length-drop) (omega (arith, a.ordered, a.inside))
 
-module _ {d : Delimiters} {i : Bytes} {g : GroupAt} {valid : List Bool} {ids : List (List ℕ)} {rows : Guide} {first : ℕ} {starts marks links : List ℕ}
+module _ {d : Delimiters} {i : Bytes} {g : GroupAt} {valid : List Bool} {ids : List (List ℕ)} {rows : Guide} {first : ℕ} {starts : List ℕ} {marks : List Mark} {links : List ℕ}
     (s : Surveyable d i g valid ids rows first starts marks links)
     {gs body : Bytes} {scope : Scope}
     (p : gs ≡ part i g.gs g.gs_end) (q : body ≡ part i g.body g.body_end) (k : scope ≡ scope_in (split d.element gs)) where
@@ -162,7 +161,7 @@ module _ {d : Delimiters} {i : Bytes} {g : GroupAt} {valid : List Bool} {ids : L
   pub body_small : length body < 65536
   body_small = rw q s.small
 
-  module _ {survey : Survey} {starts' marks' links' : List ℕ}
+  module _ {survey : Survey} {starts' : List ℕ} {marks' : List Mark} {links' : List ℕ}
       (v : (Surveyed d (table_by ids rows scope) body starts' marks' survey) × Linked links' (first + survey.sets.received)) where
     surveyed : Surveyed d (table_of d i g) (body_of i g) starts' marks' survey
     surveyed = rw (s.directory, s.tables, k, p, q) at v.0
@@ -177,10 +176,10 @@ module _ {d : Delimiters} {i : Bytes} {g : GroupAt} {valid : List Bool} {ids : L
         (omega (arith, few, s.cleared.places), omega (arith, few, s.cleared.marked))
 
     pub surveyed_group : {ge : Bytes} {summary : Summary} {l : ℕ} → length starts' ≡ length starts → length marks' ≡ length marks → ge ≡ part i g.body_end g.ge_end
-        → summary ≡ summary_of scope (split d.element gs) (trailer_if g.closed (split d.element ge)) survey.sets
+        → summary ≡ summary_of scope (split d.element gs) (trailer_if d.element (then_some g.closed ge)) survey.sets
         → ((ss : List Segment) → Measures d ss survey.blocks
         → l ≡ sat (length (out d (beginning (split d.element gs) 1 ++ (ss ++ ending summary (sat (survey.blocks.segments + 4)) 1)))))
-        → SurveyedGroup d i g first (set starts' survey.sets.received (length body)) (set marks' survey.sets.received 5) links'
+        → SurveyedGroup d i g first (set starts' survey.sets.received (length body)) (set marks' survey.sets.received GroupEnd) links'
         (record { entries = survey.sets.received + 1; length = l })
     surveyed_group ls lm r u measured =
         let sv = surveyed in
@@ -196,20 +195,20 @@ module _ {d : Delimiters} {i : Bytes} {g : GroupAt} {valid : List Bool} {ids : L
         }
 
 -- 5. Its 997 by its entries.
-module _ {d : Delimiters} {i : Bytes} {g : GroupAt} {sets : Tally} {starts marks : List ℕ} (e : GroupEntries d i g sets starts marks) where
+module _ {d : Delimiters} {i : Bytes} {g : GroupAt} {sets : Tally} {starts : List ℕ} {marks : List Mark} (e : GroupEntries d i g sets starts marks) where
   -- where the body ends, by the length of the body
-  body_again : (at : ℕ) → next_group d i at ≡ Found g → end_of d i at + 1 + get_or starts sets.received 0 ≡ g.body_end
+  body_again : (at : ℕ) → next_group d i at ≡ Some g → end_of d i at + 1 + get_or starts sets.received 0 ≡ g.body_end
   body_again at f = omega (arith, e.ends, body_long d i g e.answerable, e.answerable.ordered, (next_found d i at f).body_after)
 
   -- where GS ends
-  pub header_within : (at : ℕ) → next_group d i at ≡ Found g → end_of d i at + 1 ≤ 65536
+  pub header_within : (at : ℕ) → next_group d i at ≡ Some g → end_of d i at + 1 ≤ 65536
   header_within at f = omega (arith, (next_found d i at f).body_after, e.answerable.ordered, e.answerable.inside, e.answerable.short)
 
-  pub body_within : (at : ℕ) → next_group d i at ≡ Found g → end_of d i at + 1 + get_or starts sets.received 0 ≤ 65536
+  pub body_within : (at : ℕ) → next_group d i at ≡ Some g → end_of d i at + 1 + get_or starts sets.received 0 ≤ 65536
   body_within at f = omega (arith, body_again at f, e.answerable.inside, e.answerable.short)
 
   -- the group again, and its sets
-  pub group_is : (at : ℕ) → next_group d i at ≡ Found g → {t : Tally} {end : ℕ} {h : GroupAt} → t ≡ tally_of marks → end ≡ end_of d i at
+  pub group_is : (at : ℕ) → next_group d i at ≡ Some g → {t : Tally} {end : ℕ} {h : GroupAt} → t ≡ tally_of marks → end ≡ end_of d i at
       → h ≡ group_ending d i at (end + 1 + get_or starts t.received 0) → (h ≡ g) × (t ≡ sets)
   group_is at f {t} x y z =
       let known : t ≡ sets = x ∙ tally_is e in
@@ -222,7 +221,7 @@ module _ {d : Delimiters} {i : Bytes} {g : GroupAt} {sets : Tally} {starts marks
     sets_looked = (rw (x, y, k, p, q) e.looked, rw (y, k) (table_stands _))
 
     pub group_written : {ge : Bytes} {summary : Summary} (r : ge ≡ part i g.body_end g.ge_end) (n : ℕ) {m n₀ n₁ n₂ n₃ : ℕ} {o o₁ o₂ o₃ : Bytes}
-        → summary ≡ summary_of scope (split d.element gs) (trailer_if g.closed (split d.element ge)) sets
+        → summary ≡ summary_of scope (split d.element gs) (trailer_if d.element (then_some g.closed ge)) sets
         → m ≡ sat (length (blocks (reports d (table_by ids rows scope) body)))
         → From n₀ (out d (beginning (split d.element gs) n)) n₁ o o₁ → From n₁ (out d (blocks (reports d (table_by ids rows scope) body))) n₂ o₁ o₂
         → From n₂ (out d (ending summary (sat (m + 4)) n)) n₃ o₂ o₃ → From n₀ (out d (transaction_of d i g n)) n₃ o o₃

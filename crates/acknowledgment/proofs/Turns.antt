@@ -1,7 +1,7 @@
 -- The blocks of the sets of a group, set by set: what is written of them so far, and what is owed.
 use mathlib.Core.Path.{◌≡◌, refl, sym, ap, ◌∙◌}
 use mathlib.Core.List.{List, [], ◌∷◌}
-use mathlib.Core.Option.{Option}
+use Rattle.std.specs.Prelude.{Option}
 use Prim.Native.Nat.{ℕ, ◌+◌, ◌-◌, ◌<◌, ◌≤◌, min}
 use native.Mathlib.Omega.{arith}
 use lib.ListN.{length, drop, length-append, drop_of_length-le}
@@ -21,6 +21,7 @@ use Rattle.writing.proofs.Laws.{Owes, lend, all, pay, done, whole, kept}
 use Rattle.notes.specs.Saying.{Tells}
 use Rattle.notes.specs.declared.Told.{Told}
 use Rattle.acknowledgment.specs.Writers.{Measures}
+use Rattle.acknowledgment.specs.declared.set_block.Mark.{Mark}
 use Rattle.acknowledgment.specs.Surveys.{report_at, reports, Seen}
 use Rattle.acknowledgment.proofs.Reports.{remaining_next, drop_next}
 
@@ -65,10 +66,10 @@ module _ {d : Delimiters} {rs : List SetReport} {o o₁ : Bytes} {n m k : ℕ} (
   pub sofar_end : length rs ≤ k → Tells d (blocks rs) (record { length = n; segments = m }) o o₁
   unfolding out blocks
   sofar_end h =
-      let none = drop_of_length-le rs {i = k} h in
+      let absent = drop_of_length-le rs {i = k} h in
       record {
-        text = whole (done s.text (rw none) s.long (omega arith));
-        number = omega (arith, rw none at s.number);
+        text = whole (done s.text (rw absent) s.long (omega arith));
+        number = omega (arith, rw absent at s.number);
       }
 
 -- what a writer says of an empty part is what its segments come to
@@ -81,7 +82,7 @@ pub sofar_measured : {d : Delimiters} {rs : List SetReport} {n m k n' m' : ℕ} 
 sofar_measured s next w nn mm = sofar_turn s {rest = 0} next (omega arith) w nn mm
 
 -- the set that a survey names, and its report
-module _ {d : Delimiters} {table : Set → Option Table} {body : Bytes} {before : List ℕ} {k at mark : ℕ} (s : Seen d table body before k at mark) where
+module _ {d : Delimiters} {table : Set → Option Table} {body : Bytes} {before : List ℕ} {k at : ℕ} {mark : Mark} (s : Seen d table body before k at mark) where
   pub seen_set : SetIs d body at (set_at d body at)
   seen_set = set_next d body at _ s.headed.inside refl s.clean
 

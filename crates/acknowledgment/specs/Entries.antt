@@ -1,6 +1,5 @@
 -- The entries of an interchange: those of the sets of each group, and after them one that tells how long the body of the group is.
-use Rattle.std.specs.Prelude.{ℕ, ◌+◌, ◌*◌, ◌<◌, ◌≤◌, ◌≡◌, Bool, false, List, [], ◌∷◌, map, eqb, length, take, drop, get_or}
-use Rattle.std.proofs.Math.Option.{Option}
+use Rattle.std.specs.Prelude.{ℕ, ◌+◌, ◌*◌, ◌<◌, ◌≤◌, ◌≡◌, Bool, false, List, [], ◌∷◌, map, eqb, length, take, drop, get_or, Option, None, Some, Result, Ok, Err}
 use Rattle.rules.specs.Base.{Bytes, first}
 use Rattle.rules.specs.Cutting.{Segment, delimiters, split, segments}
 use Rattle.rules.specs.Numbers.{padded}
@@ -9,8 +8,10 @@ use Rattle.rules.specs.Sets.{Set}
 use Rattle.rules.specs.Groups.{Group, groups_of, group_report, accepted_in}
 use Rattle.rules.specs.Refusals.{groups_rules, most_groups, refusal}
 use Rattle.rules.specs.Response.{out, transaction_set, transaction_sets}
+use Rattle.rules.specs.Refused.{refused}
 use Rattle.rules.specs.declared.Call.{Call}
 use Rattle.rules.specs.declared.Delimiters.{Delimiters}
+use Rattle.rules.specs.declared.Refusal.{Refusal}
 use Rattle.text.specs.Text.{part}
 use Rattle.look.specs.Bytes.{valid_bytes}
 use Rattle.tables.specs.Reading.{Guide}
@@ -19,8 +20,6 @@ use Rattle.guides.specs.Encoded.{directory_rows}
 use Rattle.guides.proofs.Chosen.{all_rows}
 use Rattle.envelope.specs.Places.{group_at, next_group}
 use Rattle.envelope.specs.declared.GroupAt.{GroupAt}
-use Rattle.envelope.specs.declared.NextGroup.{NextGroup}
-use Rattle.envelope.specs.declared.NextGroup.TheVariants.{Found, None}
 use Rattle.envelope.specs.declared.Envelope.{Envelope}
 use Rattle.envelope.proofs.Laws.{EnvelopeIs}
 use Rattle.sets.proofs.Refused.{Passed}
@@ -31,8 +30,8 @@ use Rattle.acknowledgment.specs.Received.{table_by}
 use Rattle.acknowledgment.specs.Surveys.{reports, Looked, acceptances, Cleared}
 use Rattle.acknowledgment.specs.declared.transaction.GroupSurvey.{GroupSurvey}
 use Rattle.acknowledgment.specs.declared.transaction.Progress.{Progress}
-use Rattle.acknowledgment.specs.declared.response.GroupsSurvey.{GroupsSurvey}
-use Rattle.acknowledgment.specs.declared.response.GroupsSurvey.TheVariants as surveys
+use Rattle.acknowledgment.specs.declared.set_block.Mark.{Mark}
+use Rattle.acknowledgment.specs.declared.set_block.Mark.TheVariants.{Accepted, GroupEnd}
 
 -- 1. The group at a place.
 abbrev pub header_of : Delimiters → Bytes → GroupAt → Segment
@@ -58,19 +57,19 @@ pub record Answerable (d : Delimiters) (i : Bytes) (g : GroupAt) : Type 0 where
   pub apart : eqb d.element d.terminator ≡ false
 
 -- 2. One look at a group.
--- The entries of a group with so many sets, from its first on; its last has the mark 5.
-pub record GroupEntries (d : Delimiters) (i : Bytes) (g : GroupAt) (sets : Tally) (starts marks : List ℕ) : Type 0 where
+-- The entries of a group with so many sets, from its first on; its last has the mark of an end.
+pub record GroupEntries (d : Delimiters) (i : Bytes) (g : GroupAt) (sets : Tally) (starts : List ℕ) (marks : List Mark) : Type 0 where
   pub answerable : Answerable d i g
   pub looked : Looked d (table_of d i g) (body_of i g) starts marks sets.received
   pub allowed : sets.accepted ≡ accepted_in (reports d (table_of d i g) (body_of i g))
   pub counted : sets.accepted ≡ acceptances (take sets.received marks)
   pub stored : sets.received < length starts
   pub marked : sets.received < length marks
-  pub ended : get_or marks sets.received 0 ≡ 5
+  pub ended : get_or marks sets.received Accepted ≡ GroupEnd
   pub ends : get_or starts sets.received 0 ≡ length (body_of i g)
 
 -- The group can be looked at by these tables, and has room for its entries, of which the first has this number.
-pub record Surveyable (d : Delimiters) (i : Bytes) (g : GroupAt) (valid : List Bool) (ids : List (List ℕ)) (rows : Guide) (first : ℕ) (starts marks links : List ℕ) : Type 0 where
+pub record Surveyable (d : Delimiters) (i : Bytes) (g : GroupAt) (valid : List Bool) (ids : List (List ℕ)) (rows : Guide) (first : ℕ) (starts : List ℕ) (marks : List Mark) (links : List ℕ) : Type 0 where
   pub answerable : Answerable d i g
   pub bytes : valid ≡ valid_bytes d
   pub directory : ids ≡ directory_rows
@@ -79,7 +78,7 @@ pub record Surveyable (d : Delimiters) (i : Bytes) (g : GroupAt) (valid : List B
   pub small : length (body_of i g) < 65536
 
 -- It was looked at.
-pub record SurveyedGroup (d : Delimiters) (i : Bytes) (g : GroupAt) (first : ℕ) (starts marks links : List ℕ) (r : GroupSurvey) : Type 0 where
+pub record SurveyedGroup (d : Delimiters) (i : Bytes) (g : GroupAt) (first : ℕ) (starts : List ℕ) (marks : List Mark) (links : List ℕ) (r : GroupSurvey) : Type 0 where
   pub sets : Tally
   pub recorded : GroupEntries d i g sets starts marks
   pub number : r.entries ≡ sets.received + 1
@@ -95,14 +94,14 @@ abbrev pub acknowledgments : Delimiters → Bytes → List Segment
 acknowledgments d i = transaction_sets 1 (map (group_report d) (groups_by d i))
 
 -- From entry k on there are those of the groups from a step on.
-pub data Entries (d : Delimiters) (i : Bytes) (starts marks : List ℕ) : ℕ → NextGroup → List Group → Type 0 where
+pub data Entries (d : Delimiters) (i : Bytes) (starts : List ℕ) (marks : List Mark) : ℕ → Option GroupAt → List Group → Type 0 where
   no_entry : {k : ℕ} → Entries d i starts marks k None []
   entries_of : {k : ℕ} {g : GroupAt} {gs : List Group} {sets : Tally} → GroupEntries d i g sets (drop k starts) (drop k marks)
       → Entries d i starts marks (k + sets.received + 1) (next_group d i g.next) gs
-      → Entries d i starts marks k (Found g) (group_at d i g ∷ gs)
+      → Entries d i starts marks k (Some g) (group_at d i g ∷ gs)
 
 -- Nothing is entered, and there is room for the entries of every interchange with 16 groups that is as long as this one.
-pub record Roomy (i : Bytes) (starts marks links : List ℕ) : Type 0 where
+pub record Roomy (i : Bytes) (starts : List ℕ) (marks : List Mark) (links : List ℕ) : Type 0 where
   pub none : (s : ℕ) → get_or links s 0 ≡ 0
   pub places : length i + 192 < 12 * length starts + 12
   pub marked : length marks ≡ length starts
@@ -115,7 +114,7 @@ pub record Sound (d : Delimiters) (i : Bytes) (e : Envelope) : Type 0 where
   pub short : length i ≤ 65536
   pub apart : eqb d.element d.terminator ≡ false
 
-pub record Enterable (d : Delimiters) (i : Bytes) (e : Envelope) (valid : List Bool) (ids : List (List ℕ)) (rows : Guide) (starts marks links : List ℕ) : Type 0 where
+pub record Enterable (d : Delimiters) (i : Bytes) (e : Envelope) (valid : List Bool) (ids : List (List ℕ)) (rows : Guide) (starts : List ℕ) (marks : List Mark) (links : List ℕ) : Type 0 where
   pub sound : Sound d i e
   pub bytes : valid ≡ valid_bytes d
   pub directory : ids ≡ directory_rows
@@ -123,21 +122,22 @@ pub record Enterable (d : Delimiters) (i : Bytes) (e : Envelope) (valid : List B
   pub room : Roomy i starts marks links
 
 -- What a look at all groups comes to: none of 9 to 13 applies and the entries are there, or the first of them that applies.
-abbrev pub GroupsSurveyed : Delimiters → Bytes → Envelope → List ℕ → List ℕ → GroupsSurvey → Type 0
-GroupsSurveyed d i e starts marks (surveys.Sound n) =
+abbrev pub GroupsSurveyed : Delimiters → Bytes → Envelope → List ℕ → List Mark → Result ℕ Refusal → Type 0
+GroupsSurveyed d i e starts marks (Ok n) =
     (first (groups_rules d (groups_by d i)) ≡ 0)
-    × ((n ≡ sat (length (out d (acknowledgments d i)))) × Entries d i starts marks 0 (Found e.first) (groups_by d i))
-GroupsSurveyed d i e starts marks (surveys.Refused n) = (n ≡ first (groups_rules d (groups_by d i))) × (n ≡ 0 → ⊥)
+    × ((n ≡ sat (length (out d (acknowledgments d i)))) × Entries d i starts marks 0 (Some e.first) (groups_by d i))
+GroupsSurveyed d i e starts marks (Err r) =
+    (r ≡ refused (first (groups_rules d (groups_by d i)))) × (first (groups_rules d (groups_by d i)) ≡ 0 → ⊥)
 
 -- 4. What is written.
 -- The next group can be answered by its entries.
-pub record Writable (d : Delimiters) (i : Bytes) (p : Progress) (ids : List (List ℕ)) (rows : Guide) (starts marks : List ℕ) : Type 0 where
+pub record Writable (d : Delimiters) (i : Bytes) (p : Progress) (ids : List (List ℕ)) (rows : Guide) (starts : List ℕ) (marks : List Mark) : Type 0 where
   pub directory : ids ≡ directory_rows
   pub tables : rows ≡ all_rows
   pub number : p.number ≤ most_groups
   pub few : length starts ≤ 5477
   pub group : GroupAt
-  pub found : next_group d i p.at ≡ Found group
+  pub found : next_group d i p.at ≡ Some group
   pub sets : Tally
   pub recorded : GroupEntries d i group sets (drop p.entry starts) (drop p.entry marks)
 
@@ -149,12 +149,12 @@ pub record WroteGroup (d : Delimiters) (i : Bytes) (p : Progress) (g : GroupAt) 
   pub number : r.number ≡ p.number + 1
 
 -- All groups can be answered by their entries.
-pub record Recorded (d : Delimiters) (i : Bytes) (e : Envelope) (ids : List (List ℕ)) (rows : Guide) (starts marks : List ℕ) : Type 0 where
+pub record Recorded (d : Delimiters) (i : Bytes) (e : Envelope) (ids : List (List ℕ)) (rows : Guide) (starts : List ℕ) (marks : List Mark) : Type 0 where
   pub sound : Sound d i e
   pub directory : ids ≡ directory_rows
   pub tables : rows ≡ all_rows
   pub few : length starts ≤ 5477
-  pub entries : Entries d i starts marks 0 (Found e.first) (groups_by d i)
+  pub entries : Entries d i starts marks 0 (Some e.first) (groups_by d i)
 
 -- The interchange has this envelope and these delimiters, and none of 1 to 8 applies.
 pub record Answering (d : Delimiters) (i : Bytes) (e : Envelope) (call : Call) : Type 0 where

@@ -1,6 +1,5 @@
 -- A set as received: which set it is, its table, and its report.
-use Rattle.std.specs.Prelude.{ℕ, ◌≡◌, Bool, true, List, []}
-use Rattle.std.proofs.Math.Option.{Option}
+use Rattle.std.specs.Prelude.{ℕ, ◌≡◌, Bool, true, List, [], Option}
 use Rattle.rules.specs.Base.{Bytes}
 use Rattle.rules.specs.Cutting.{field, split}
 use Rattle.rules.specs.Tables.{Table}

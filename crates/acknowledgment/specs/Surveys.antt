@@ -1,6 +1,5 @@
 -- What one look at the sets of a group tells: where each starts, and by its mark whether it is accepted and whether its control number was used before.
-use Rattle.std.specs.Prelude.{ℕ, suc, ◌+◌, ◌-◌, ◌<◌, ◌≤◌, ◌≡◌, Bool, true, false, ◌&&◌, ◌||◌, List, [], ◌∷◌, eqb, length, take, drop, get_or, set, if◌then◌else◌}
-use Rattle.std.proofs.Math.Option.{Option}
+use Rattle.std.specs.Prelude.{ℕ, suc, ◌+◌, ◌-◌, ◌<◌, ◌≤◌, ◌≡◌, Bool, true, false, ◌&&◌, List, [], ◌∷◌, eqb, length, take, drop, get_or, set, if◌then◌else◌, Option}
 use Rattle.rules.specs.Base.{Bytes, ascii, same, member}
 use Rattle.rules.specs.Cutting.{Segment, field, split, segments}
 use Rattle.rules.specs.Numbers.{declares}
@@ -21,6 +20,8 @@ use Rattle.sets.proofs.Refused.{Passed}
 use Rattle.register.specs.Trees.{slot_of}
 use Rattle.register.proofs.Entered.{Linked, Entered}
 use Rattle.verdicts.specs.declared.Tally.{Tally}
+use Rattle.acknowledgment.specs.declared.set_block.Mark.{Mark}
+use Rattle.acknowledgment.specs.declared.set_block.Mark.TheVariants.{Accepted, Rejected, Repeated, QuietRejected, QuietRepeated, GroupEnd}
 use Rattle.acknowledgment.specs.declared.set_block.SeenSet.{SeenSet}
 use Rattle.acknowledgment.specs.declared.survey.Survey.{Survey}
 use Rattle.acknowledgment.specs.declared.survey.SurveyedSet.{SurveyedSet}
@@ -92,23 +93,36 @@ pub record SeenIs (d : Delimiters) (table : Set → Option Table) (body : Bytes)
 
 -- 4. Marks.
 -- by whether a set's number was used before, whether it is known that nothing is told of it, and whether it has no code else
-abbrev pub mark_by : Bool → Bool → Bool → ℕ
-mark_by repeated quiet clean = if repeated then (if quiet then 4 else 2) else (if clean then 0 else (if quiet then 3 else 1))
+abbrev pub mark_by : Bool → Bool → Bool → Mark
+mark_by repeated quiet clean =
+    if repeated then (if quiet then QuietRepeated else Repeated) else (if clean then Accepted else (if quiet then QuietRejected else Rejected))
 
 -- what a mark says
-abbrev pub is_repeated : ℕ → Bool
-is_repeated mark = eqb mark 2 || eqb mark 4
+abbrev pub is_accepted : Mark → Bool
+is_accepted Accepted = true
+is_accepted _ = false
 
-abbrev pub is_quiet : ℕ → Bool
-is_quiet mark = eqb mark 3 || eqb mark 4
+abbrev pub is_repeated : Mark → Bool
+is_repeated Repeated = true
+is_repeated QuietRepeated = true
+is_repeated _ = false
+
+abbrev pub is_quiet : Mark → Bool
+is_quiet QuietRejected = true
+is_quiet QuietRepeated = true
+is_quiet _ = false
+
+abbrev pub is_end : Mark → Bool
+is_end GroupEnd = true
+is_end _ = false
 
 -- A mark is right by whether a set's number was used before, and its report where it was not.
-pub record MarkIs (repeated : Bool) (r : SetReport) (mark : ℕ) : Type 0 where
+pub record MarkIs (repeated : Bool) (r : SetReport) (mark : Mark) : Type 0 where
   pub quiet : Bool
   pub untold : quiet ≡ true → r.notes ≡ []
   pub marked : mark ≡ mark_by repeated quiet (accepted r)
 
-abbrev pub Marked : Delimiters → (Set → Option Table) → Bytes → ℕ → List Bytes → ℕ → Type 0
+abbrev pub Marked : Delimiters → (Set → Option Table) → Bytes → ℕ → List Bytes → Mark → Type 0
 Marked d table body at earlier mark = MarkIs (member (control_of (set_here d body at)) earlier) (report_at d table body at []) mark
 
 -- the block of a set that is accepted
@@ -124,26 +138,26 @@ pub record SurveyedIs (d : Delimiters) (table : Set → Option Table) (body : By
 
 -- 5. The look at all sets.
 -- Set k starts at a place and has this mark; those before it start at these places.
-pub record Seen (d : Delimiters) (table : Set → Option Table) (body : Bytes) (before : List ℕ) (k at mark : ℕ) : Type 0 where
+pub record Seen (d : Delimiters) (table : Set → Option Table) (body : Bytes) (before : List ℕ) (k at : ℕ) (mark : Mark) : Type 0 where
   pub headed : Headed d body at
   pub clean : outside (segments d (drop at body)) ≡ false
   pub rest : drop k (reports d table body) ≡ remaining d table body before at
   pub marked : Marked d table body at (controls_at d body before) mark
 
 -- The entries of a group are those of its n sets.
-pub record Looked (d : Delimiters) (table : Set → Option Table) (body : Bytes) (starts marks : List ℕ) (n : ℕ) : Type 0 where
+pub record Looked (d : Delimiters) (table : Set → Option Table) (body : Bytes) (starts : List ℕ) (marks : List Mark) (n : ℕ) : Type 0 where
   pub received : n ≡ length (reports d table body)
   pub stored : n ≤ length starts
   pub marked : n ≤ length marks
-  pub seen : (k : ℕ) → k < n → Seen d table body (take k starts) k (get_or starts k 0) (get_or marks k 0)
+  pub seen : (k : ℕ) → k < n → Seen d table body (take k starts) k (get_or starts k 0) (get_or marks k Accepted)
 
 -- how many marks say that their set is accepted
-unfoldable pub acceptances : List ℕ → ℕ
+unfoldable pub acceptances : List Mark → ℕ
 acceptances [] = 0
-acceptances (m ∷ ms) = let r = acceptances ms in if eqb m 0 then suc r else r
+acceptances (m ∷ ms) = let r = acceptances ms in if is_accepted m then suc r else r
 
 -- All sets of a group were looked at.
-pub record Surveyed (d : Delimiters) (table : Set → Option Table) (body : Bytes) (starts marks : List ℕ) (r : Survey) : Type 0 where
+pub record Surveyed (d : Delimiters) (table : Set → Option Table) (body : Bytes) (starts : List ℕ) (marks : List Mark) (r : Survey) : Type 0 where
   pub looked : Looked d table body starts marks r.sets.received
   pub allowed : r.sets.accepted ≡ accepted_in (reports d table body)
   pub counted : r.sets.accepted ≡ acceptances (take r.sets.received marks)
@@ -158,7 +172,7 @@ pub record Open (d : Delimiters) (body : Bytes) (valid : List Bool) (rows : Guid
   pub tables : Scoped rows scope
 
 -- No set of the group is entered in the links, and there is room for every set and for one entry more; first is the number of the group's first entry.
-pub record Cleared (d : Delimiters) (body : Bytes) (first : ℕ) (starts marks links : List ℕ) : Type 0 where
+pub record Cleared (d : Delimiters) (body : Bytes) (first : ℕ) (starts : List ℕ) (marks : List Mark) (links : List ℕ) : Type 0 where
   pub none : Linked links first
   pub places : length (sets_of (segments d body)) < length starts
   pub marked : length (sets_of (segments d body)) < length marks
@@ -167,11 +181,11 @@ pub record Cleared (d : Delimiters) (body : Bytes) (first : ℕ) (starts marks l
 
 -- 6. The end of a group's entries.
 -- r sets with a of them accepted, and those whose marks follow, up to the mark that ends their group
-unfoldable pub tally_from : ℕ → ℕ → List ℕ → Tally
+unfoldable pub tally_from : ℕ → ℕ → List Mark → Tally
 tally_from r a [] = record { received = r; accepted = a }
 tally_from r a (m ∷ ms) =
-    let on = tally_from (r + 1) (if eqb m 0 then a + 1 else a) ms in
-    if eqb m 5 then record { received = r; accepted = a } else on
+    let on = tally_from (r + 1) (if is_accepted m then a + 1 else a) ms in
+    if is_end m then record { received = r; accepted = a } else on
 
-abbrev pub tally_of : List ℕ → Tally
+abbrev pub tally_of : List Mark → Tally
 tally_of = tally_from 0 0

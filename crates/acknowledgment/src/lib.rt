@@ -2,8 +2,6 @@
 // The acknowledgment of an interchange: a 997 for each of its groups, or the number of a refusal.
 ghost use Rattle.rules.specs.Answers.{functional_acknowledgment, Allowed};
 
-use isa::Isa;
-use refusals::EnvelopeCheck;
 use rules::{Answer, Call};
 
 mod response;
@@ -15,13 +13,7 @@ mod transaction;
 pub fn acknowledge(interchange: &[u8], response: &mut [u8], call: Call) -> Answer
     ensures { Allowed (functional_acknowledgment interchange.now call) response.old result response.new }
 {
-    match refusals::check_head(interchange, call) {
-        Isa::Sound(d) => match refusals::check_envelope(interchange, d) {
-            EnvelopeCheck::Sound(envelope) => {
-                response::answer_groups(response, interchange, d, envelope, call)
-            }
-            EnvelopeCheck::Faulty(fault) => Answer::Refused(fault.refusal()),
-        },
-        Isa::Refused(n) => Answer::Refused(n),
-    }
+    let d = refusals::check_head(interchange, call)?;
+    let envelope = refusals::check_envelope(interchange, d)?;
+    response::answer_groups(response, interchange, d, envelope, call)
 }

@@ -1,13 +1,12 @@
 // One set of a group: whether it has a code, and its block in the response: AK2, its notes, AK5.
-ghost use Rattle.std.specs.Prelude.{◌≡◌, true, false, not, List, [], ◌∷◌, ℕ, ◌+◌, ◌<◌, ◌≤◌, length};
-ghost use Rattle.std.proofs.Math.Option.{Option};
-ghost use Rattle.rules.specs.Base.{Bytes, null, is_none, member};
+ghost use Rattle.std.specs.Prelude.{◌≡◌, true, false, not, List, [], ◌∷◌, ℕ, ◌+◌, ◌<◌, ◌≤◌, length, is_none, is_some, Option};
+ghost use Rattle.rules.specs.Base.{Bytes, null, member};
 ghost use Rattle.rules.specs.Cutting.{field};
 ghost use Rattle.rules.specs.Tables.{Table};
 ghost use Rattle.rules.specs.Segments.{Note};
 ghost use Rattle.rules.specs.Sets.{control_of, notes_in, set_codes};
 ghost use Rattle.rules.specs.Response as law;
-ghost use Rattle.guides.specs.Choice.{is_there, table_at};
+ghost use Rattle.guides.specs.Choice.{table_at};
 ghost use Rattle.text.specs.Text.{part};
 ghost use Rattle.sets.specs.Places.{set_at, control_at};
 ghost use Rattle.sets.proofs.Sets.{SetIs};
@@ -16,34 +15,51 @@ ghost use Rattle.writing.specs.Over.{sat};
 ghost use Rattle.notes.specs.Saying.{Tells};
 ghost use Rattle.acknowledgment.specs.Writers.{TellsFrom, Measures};
 ghost use Rattle.acknowledgment.specs.Received.{Scoped, Ordered, received_at, set_of, ReceivedIs, report_of, Untold, table_by};
-ghost use Rattle.acknowledgment.specs.Surveys.{set_here, report_at, header_at, is_repeated, is_quiet, Marked, acceptance, Headed, closed_well, Sighted, SeenIs};
+ghost use Rattle.acknowledgment.specs.Surveys.{set_here, report_at, header_at, is_accepted, is_repeated, is_quiet, Marked, acceptance, Headed, closed_well, Sighted, SeenIs};
 
 use guides::{Scope, TableAt};
-use look::Look;
 use notes::Told;
 use rules::Delimiters;
 use sets::SetAt;
 use verdicts::{Codes, SetFacts};
 
-// The marks of a set: it has no code; it has some; one of them is that its control number was used before.
-pub const ACCEPTED: u8 = 0;
+// What a look tells of a set: it has no code, it has some, or one of them is that its control number was used before. The quiet ones tell also that
+// nothing is told of it. GroupEnd is no set's: it stands after the marks of a group's sets, and so tells how many they are.
+#[derive(Clone, Copy, PartialEq, Eq)]
+pub enum Mark {
+    Accepted,
+    Rejected,
+    Repeated,
+    QuietRejected,
+    QuietRepeated,
+    GroupEnd,
+}
 
-pub const REJECTED: u8 = 1;
+impl Mark {
+    pub(crate) fn is_accepted(self) -> bool
+        ensures { result ≡ is_accepted self }
+    {
+        self == Mark::Accepted
+    }
 
-pub const REPEATED: u8 = 2;
+    fn is_repeated(self) -> bool
+        ensures { result ≡ is_repeated self }
+    {
+        matches!(self, Mark::Repeated | Mark::QuietRepeated)
+    }
 
-// The last two, of a set of which a look showed that nothing is told.
-pub const QUIET_REJECTED: u8 = 3;
-
-pub const QUIET_REPEATED: u8 = 4;
-
-// No set has it: it stands after the marks of a group's sets, and so tells how many they are.
-pub const GROUP_END: u8 = 5;
+    fn is_quiet(self) -> bool
+        ensures { result ≡ is_quiet self }
+    {
+        matches!(self, Mark::QuietRejected | Mark::QuietRepeated)
+    }
+}
 
 // The bytes of AK2 and AK5 of an accepted set beside its ST02: ST01 has three.
 const ACCEPTANCE: usize = 15;
 
-// How the sets of a group are read: by which delimiters, and by which tables.
+// How the sets of a group are read: by which delimiters, and by which tables. The directory and the rows are lent beside it, each for itself: a look
+// reads no directory, and a set is read by a part of the rows.
 #[derive(Clone, Copy)]
 pub struct Reading {
     pub delimiters: Delimiters,
@@ -51,7 +67,7 @@ pub struct Reading {
 }
 
 // A set that was looked at: its place, whether it showed that nothing is told of the set, and whether the set has no code where its control number
-// was not used before.
+// was not used before. Two flags and no enum: each is asked for alone, and the second only of a set that is not quiet.
 #[derive(Clone, Copy)]
 pub struct SeenSet {
     pub place: SetAt,
@@ -64,7 +80,7 @@ pub struct SeenSet {
 #[derive(Clone, Copy)]
 pub struct ReceivedSet {
     pub place: SetAt,
-    pub table: TableAt,
+    pub table: Option<TableAt>,
     pub repeated: bool,
     pub quiet: bool,
 }
@@ -73,20 +89,18 @@ pub struct ReceivedSet {
 #[derive(Clone, Copy)]
 pub struct MarkedSet {
     pub start: usize,
-    pub mark: u8,
+    pub mark: Mark,
 }
 
 // The set at a place, with the table that its ST01 gives it.
 fn receive(body: &[u8], reading: Reading, place: SetAt, repeated: bool, quiet: bool) -> ReceivedSet
     ensures { result ≡ received_at reading.delimiters reading.scope body.now place repeated quiet }
 {
-    let d = reading.delimiters;
     let header = text::part(body, place.start, place.header);
-    let scope = reading.scope;
-    let table = guides::table_of(scope, segments::field(header, d.element, 1));
+    let kind = segments::field(header, reading.delimiters.element, 1);
     ReceivedSet {
         place,
-        table,
+        table: guides::table_of(reading.scope, kind),
         repeated,
         quiet,
     }
@@ -95,20 +109,18 @@ fn receive(body: &[u8], reading: Reading, place: SetAt, repeated: bool, quiet: b
 // The codes of a set, by whether it has notes.
 fn codes_of(body: &[u8], d: Delimiters, set: ReceivedSet, noted: bool) -> Codes
     requires { SetIs d body.now set.place.start set.place }
-    ensures { (t : Option Table) (notes : List Note) (earlier : List Bytes) → is_there set.table ≡ not (is_none t) → noted ≡ not (null notes) → set.repeated ≡ member (control_of (set_of d body.now set)) earlier → codes_of result ≡ set_codes t notes earlier (set_of d body.now set) }
+    ensures { (t : Option Table) (notes : List Note) (earlier : List Bytes) → is_some set.table ≡ not (is_none t) → noted ≡ not (null notes) → set.repeated ≡ member (control_of (set_of d body.now set)) earlier → codes_of result ≡ set_codes t notes earlier (set_of d body.now set) }
 {
     let place = set.place;
     let header = text::part(body, place.start, place.header);
     let trailer = text::part(body, place.trailer, place.end - 1);
-    let table = set.table;
     let facts = SetFacts {
-        supported: table.is_there(),
-        closed: place.closed,
+        supported: set.table.is_some(),
         segments: place.segments,
         noted,
         repeated: set.repeated,
     };
-    verdicts::set_codes(header, trailer, d, facts)
+    verdicts::set_codes(header, place.closed.then_some(trailer), d, facts)
 }
 
 // ST01 of the header that starts at `at`: three bytes.
@@ -172,19 +184,16 @@ pub(crate) fn see(
     ensures { (result.place ≡ set_at reading.delimiters body.now at) × ((ids : List (List ℕ)) → Ordered ids rows.now reading.scope → SeenIs reading.delimiters (table_by ids rows.now reading.scope) body.now at result) }
 {
     let d = reading.delimiters;
-    let scope = reading.scope;
-    match guides::table_of(scope, kind_of(body, at)) {
-        TableAt::Nowhere => odd_set(body, d, at),
-        TableAt::Rows(from, end) => {
-            match look::look_at(body, d, valid, &rows[from..end], at) {
-                Look::Odd => odd_set(body, d, at),
-                Look::Quiet(place) => SeenSet {
-                    place,
-                    quiet: true,
-                    clean: is_closed_well(body, d, place, control),
-                },
-            }
-        }
+    let Some(table) = guides::table_of(reading.scope, kind_of(body, at)) else {
+        return odd_set(body, d, at);
+    };
+    match look::look_at(body, d, valid, &rows[table.start..table.end], at) {
+        None => odd_set(body, d, at),
+        Some(place) => SeenSet {
+            place,
+            quiet: true,
+            clean: is_closed_well(body, d, place, control),
+        },
     }
 }
 
@@ -201,35 +210,32 @@ fn add_notes(
     requires { ReceivedIs d body.now rows.now set }
     ensures { Untold d directory.now rows.now body.now set → TellsFrom n d (law.ak3s (notes_in d (table_at directory.now rows.now set.table) (set_of d body.now set))) result out.old out.new }
 {
+    let Some(table) = set.table else {
+        return Told {
+            length: n,
+            segments: 0,
+        };
+    };
     if set.quiet {
         return Told {
             length: n,
             segments: 0,
         };
     }
-    let table = set.table;
-    match table {
-        TableAt::Nowhere => Told {
-            length: n,
-            segments: 0,
-        },
-        TableAt::Rows(from, end) => {
-            let place = set.place;
-            let bytes = text::part(body, place.start, place.end);
-            let rest = writing::clipped(n, out.len());
-            let told = notes::put_notes(
-                &mut out[rest..],
-                bytes,
-                d,
-                directory,
-                &rows[from..end],
-                place.closed,
-            );
-            Told {
-                length: writing::joined(n, told.length),
-                segments: told.segments,
-            }
-        }
+    let place = set.place;
+    let bytes = text::part(body, place.start, place.end);
+    let rest = n.min(out.len());
+    let told = notes::put_notes(
+        &mut out[rest..],
+        bytes,
+        d,
+        directory,
+        &rows[table.start..table.end],
+        place.closed,
+    );
+    Told {
+        length: n.saturating_add(told.length),
+        segments: told.segments,
     }
 }
 
@@ -263,22 +269,8 @@ fn put_rejected(
     let codes = codes_of(body, d, set, told.segments != 0);
     Told {
         length: blocks::add_ak5(out, told.length, d, codes),
-        segments: writing::joined(told.segments, 2),
+        segments: told.segments.saturating_add(2),
     }
-}
-
-// A set with this mark has a control number that was used before.
-fn is_repeated(mark: u8) -> bool
-    ensures { result ≡ is_repeated mark }
-{
-    (mark == REPEATED) | (mark == QUIET_REPEATED)
-}
-
-// Nothing is told of a set with this mark.
-fn is_quiet(mark: u8) -> bool
-    ensures { result ≡ is_quiet mark }
-{
-    (mark == QUIET_REJECTED) | (mark == QUIET_REPEATED)
 }
 
 // The block of a set that was looked at.
@@ -294,12 +286,12 @@ pub(crate) fn put_block(
     ensures { (earlier : List Bytes) → Marked reading.delimiters (table_by directory.now rows.now reading.scope) body.now set.start earlier set.mark → Tells reading.delimiters (law.block (report_at reading.delimiters (table_by directory.now rows.now reading.scope) body.now set.start earlier)) result out.old out.new }
 {
     let d = reading.delimiters;
-    if set.mark == ACCEPTED {
+    if set.mark.is_accepted() {
         return put_accepted(out, body, d, set.start);
     }
     let place = sets::next_set(body, d, set.start);
     let mark = set.mark;
-    let received = receive(body, reading, place, is_repeated(mark), is_quiet(mark));
+    let received = receive(body, reading, place, mark.is_repeated(), mark.is_quiet());
     put_rejected(out, body, d, received, directory, rows)
 }
 
@@ -308,7 +300,7 @@ pub(crate) fn measure_accepted(control: &[u8]) -> Told
     ensures { result ≡ record { length = sat (15 + length control.now); segments = 2 } }
 {
     Told {
-        length: writing::joined(ACCEPTANCE, control.len()),
+        length: ACCEPTANCE.saturating_add(control.len()),
         segments: 2,
     }
 }
@@ -328,6 +320,5 @@ pub(crate) fn measure_rejected(
     let d = reading.delimiters;
     let place = set.place;
     let received = receive(body, reading, place, repeated, set.quiet);
-    let mut nothing: [u8; 1] = [0];
-    put_rejected(&mut nothing[0..0], body, d, received, directory, rows)
+    put_rejected(&mut [], body, d, received, directory, rows)
 }

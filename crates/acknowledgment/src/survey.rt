@@ -1,5 +1,6 @@
 // One look at the sets of a group: where each starts, its mark, and what its block comes to. Each set has an entry, a place in `starts` and `marks`;
-// entries are numbered through the groups of an interchange, and `starts` and `marks` are lent from the group's first entry on.
+// entries are numbered through the groups of an interchange, and `starts` and `marks` are lent from the group's first entry on. They are two arrays and
+// not one of pairs: the register reads the starts alone, and a pair takes a byte more for each set, in memory of a fixed size.
 ghost use Rattle.std.specs.Prelude.{◌≡◌, ◌+◌};
 ghost use Rattle.sets.specs.Places.{control_at};
 ghost use Rattle.register.proofs.Entered.{Linked, Entered};
@@ -7,11 +8,8 @@ ghost use Rattle.acknowledgment.specs.Received.{Ordered, table_by};
 ghost use Rattle.acknowledgment.specs.Surveys.{Room, EnteredNext, mark_by, Sighted, SurveyedIs, Surveyed, Open, Cleared};
 
 use crate::set_block;
-use crate::set_block::{
-    ACCEPTED, QUIET_REJECTED, QUIET_REPEATED, REJECTED, REPEATED, Reading, SeenSet,
-};
+use crate::set_block::{Mark, Reading, SeenSet};
 use notes::Told;
-use register::Found;
 use rules::Delimiters;
 use verdicts::Tally;
 
@@ -53,8 +51,8 @@ fn enter(
 {
     starts[k] = at as u16;
     match register::search(body, d, first, starts, links, control) {
-        Found::Repeated => true,
-        Found::Free(slot) => {
+        None => true,
+        Some(slot) => {
             links[slot] = (first + k + 1) as u16;
             false
         }
@@ -62,22 +60,22 @@ fn enter(
 }
 
 // The mark of a set that was looked at, by whether its control number was used before.
-fn mark_of(repeated: bool, set: SeenSet) -> u8
+fn mark_of(repeated: bool, set: SeenSet) -> Mark
     ensures { result ≡ mark_by repeated set.quiet set.clean }
 {
-    if repeated {
-        return if set.quiet { QUIET_REPEATED } else { REPEATED };
+    match (repeated, set.clean, set.quiet) {
+        (true, _, false) => Mark::Repeated,
+        (true, _, true) => Mark::QuietRepeated,
+        (false, true, _) => Mark::Accepted,
+        (false, false, false) => Mark::Rejected,
+        (false, false, true) => Mark::QuietRejected,
     }
-    if set.clean {
-        return ACCEPTED;
-    }
-    if set.quiet { QUIET_REJECTED } else { REJECTED }
 }
 
 // A set as surveyed: its mark, what its block comes to, and where it ends.
 #[derive(Clone, Copy)]
 struct SurveyedSet {
-    mark: u8,
+    mark: Mark,
     block: Told,
     end: usize,
 }
@@ -100,7 +98,7 @@ fn survey_set(
     let mark = mark_of(repeated, seen);
     let place = seen.place;
     let end = place.end;
-    if mark == ACCEPTED {
+    if mark.is_accepted() {
         return SurveyedSet {
             mark,
             block: set_block::measure_accepted(control),
@@ -123,7 +121,7 @@ pub(crate) fn survey_sets(
     rows: &[[u16; 6]],
     first: usize,
     starts: &mut [u16],
-    marks: &mut [u8],
+    marks: &mut [Mark],
     links: &mut [u16],
 ) -> Survey
     requires { (Open reading.delimiters body.now valid.now rows.now reading.scope) × ((Ordered directory.now rows.now reading.scope) × Cleared reading.delimiters body.now first starts.old marks.old links.old) }
@@ -132,17 +130,17 @@ pub(crate) fn survey_sets(
     let d = reading.delimiters;
     let mut received = 0;
     let mut accepted = 0;
-    let mut length = 0;
-    let mut segments = 0;
+    let mut length: usize = 0;
+    let mut segments: usize = 0;
     let mut at = 0;
     while at < body.len() {
         let control = set_block::control_of(body, d, at);
         let repeated = enter(body, d, first, starts, links, received, at, control);
         let set = survey_set(body, reading, valid, directory, rows, at, control, repeated);
         marks[received] = set.mark;
-        length = writing::joined(length, set.block.length);
-        segments = writing::joined(segments, set.block.segments);
-        if set.mark == ACCEPTED {
+        length = length.saturating_add(set.block.length);
+        segments = segments.saturating_add(set.block.segments);
+        if set.mark.is_accepted() {
             accepted += 1;
         }
         received += 1;

@@ -1,11 +1,13 @@
 // The 997 of one group: a look at its sets tells how long it is, and by what the look kept it is written.
-ghost use Rattle.std.specs.Prelude.{◌≡◌, List, ◌++◌, ◌+◌, length, drop};
+ghost use Rattle.std.specs.Prelude.{◌≡◌, List, ◌++◌, ◌+◌, length, drop, Some};
+ghost use Rattle.std.specs.Bool.{then_some};
+ghost use Rattle.std.specs.Option.{option_copied};
 ghost use Rattle.rules.specs.Cutting as cutting;
 ghost use Rattle.rules.specs.Cutting.{Segment};
 ghost use Rattle.rules.specs.Response as law;
+ghost use Rattle.text.specs.Text.{part};
 ghost use Rattle.envelope.specs.Places.{next_group};
 ghost use Rattle.envelope.specs.declared.GroupAt.{GroupAt};
-ghost use Rattle.envelope.specs.declared.NextGroup.TheVariants.{Found};
 ghost use Rattle.verdicts.specs.declared.Tally.{Tally};
 ghost use Rattle.writing.specs.Over.{From, sat};
 ghost use Rattle.notes.specs.Saying.{Tells};
@@ -14,7 +16,7 @@ ghost use Rattle.acknowledgment.specs.Received.{Scoped, table_by};
 ghost use Rattle.acknowledgment.specs.Surveys.{reports, Looked, tally_of};
 ghost use Rattle.acknowledgment.specs.Entries.{Surveyable, SurveyedGroup, GroupEntries, Writable, WroteGroup};
 
-use crate::set_block::{ACCEPTED, GROUP_END, MarkedSet, Reading};
+use crate::set_block::{Mark, MarkedSet, Reading};
 use crate::{set_block, survey};
 use envelope::GroupAt;
 use notes::Told;
@@ -57,17 +59,25 @@ fn add_ending(
     ensures { From n (law.out d (ending summary (sat (segments + 4)) number)) result out.old out.new }
 {
     let n = blocks::add_ak9(out, n, d, summary);
-    blocks::add_se(out, n, d, writing::joined(segments, 4), number)
+    blocks::add_se(out, n, d, segments.saturating_add(4), number)
 }
 
 // How long a 997 is, by what the blocks of the sets come to. Its number makes no difference.
 fn transaction_length(d: Delimiters, gs: &[u8], blocks: Told, summary: Summary) -> usize
     ensures { (ss : List Segment) → Measures d ss blocks → result ≡ sat (length (law.out d (beginning (cutting.split d.element gs.now) 1 ++ (ss ++ ending summary (sat (blocks.segments + 4)) 1)))) }
 {
-    let mut nothing: [u8; 1] = [0];
-    let n = add_beginning(&mut nothing[0..0], 0, d, gs, 1);
-    let n = writing::joined(n, blocks.length);
-    add_ending(&mut nothing[0..0], n, d, summary, blocks.segments, 1)
+    let n = add_beginning(&mut [], 0, d, gs, 1);
+    let n = n.saturating_add(blocks.length);
+    add_ending(&mut [], n, d, summary, blocks.segments, 1)
+}
+
+// GE of a group, where it has one.
+fn trailer_of(i: &[u8], group: GroupAt) -> Option<&[u8]>
+    ensures { option_copied result ≡ then_some group.closed (part i.now group.body_end group.ge_end) }
+{
+    group
+        .closed
+        .then_some(text::part(i, group.body_end, group.ge_end))
 }
 
 // One look at the sets of a group, whose first entry has this number. The entry after those of the sets tells how long the body of the group is.
@@ -80,7 +90,7 @@ pub(crate) fn survey_group(
     rows: &[[u16; 6]],
     first: usize,
     starts: &mut [u16],
-    marks: &mut [u8],
+    marks: &mut [Mark],
     links: &mut [u16],
 ) -> GroupSurvey
     requires { Surveyable d i.now group valid.now directory.now rows.now first starts.old marks.old links.old }
@@ -88,7 +98,7 @@ pub(crate) fn survey_group(
 {
     let gs = text::part(i, group.gs, group.gs_end);
     let body = text::part(i, group.body, group.body_end);
-    let ge = text::part(i, group.body_end, group.ge_end);
+    let ge = trailer_of(i, group);
     let scope = guides::scope_of(gs, d);
     let reading = Reading {
         delimiters: d,
@@ -100,8 +110,8 @@ pub(crate) fn survey_group(
     let sets = survey.sets;
     let received = sets.received;
     starts[received] = body.len() as u16;
-    marks[received] = GROUP_END;
-    let summary = verdicts::summary_of(gs, ge, group.closed, d, scope, sets);
+    marks[received] = Mark::GroupEnd;
+    let summary = verdicts::summary_of(gs, ge, d, scope, sets);
     GroupSurvey {
         entries: received + 1,
         length: transaction_length(d, gs, survey.blocks, summary),
@@ -109,18 +119,16 @@ pub(crate) fn survey_group(
 }
 
 // How many sets there are up to the end of a group, and how many of them are accepted.
-fn tally_of(marks: &[u8]) -> Tally
+fn tally_of(marks: &[Mark]) -> Tally
     ensures { result ≡ tally_of marks.now }
 {
     let mut received = 0;
     let mut accepted = 0;
-    while received < marks.len() {
-        let mark = marks[received];
-        if mark == GROUP_END {
-            break;
-        }
-        if mark == ACCEPTED {
-            accepted += 1;
+    for &mark in marks {
+        match mark {
+            Mark::GroupEnd => break,
+            Mark::Accepted => accepted += 1,
+            _ => {}
         }
         received += 1;
     }
@@ -135,25 +143,23 @@ fn put_sets(
     directory: &[[u8; 3]],
     rows: &[[u16; 6]],
     starts: &[u16],
-    marks: &[u8],
+    marks: &[Mark],
     sets: usize,
 ) -> Told
     requires { (Looked reading.delimiters (table_by directory.now rows.now reading.scope) body.now starts.now marks.now sets) × Scoped rows.now reading.scope }
     ensures { Tells reading.delimiters (law.blocks (reports reading.delimiters (table_by directory.now rows.now reading.scope) body.now)) result out.old out.new }
 {
-    let mut n = 0;
-    let mut segments = 0;
-    let mut k = 0;
-    while k < sets {
+    let mut n: usize = 0;
+    let mut segments: usize = 0;
+    for k in 0..sets {
         let set = MarkedSet {
-            start: starts[k] as usize,
+            start: usize::from(starts[k]),
             mark: marks[k],
         };
-        let rest = writing::clipped(n, out.len());
+        let rest = n.min(out.len());
         let told = set_block::put_block(&mut out[rest..], body, reading, set, directory, rows);
-        n = writing::joined(n, told.length);
-        segments = writing::joined(segments, told.segments);
-        k += 1;
+        n = n.saturating_add(told.length);
+        segments = segments.saturating_add(told.segments);
     }
     Told {
         length: n,
@@ -170,10 +176,10 @@ pub(crate) fn add_transaction(
     directory: &[[u8; 3]],
     rows: &[[u16; 6]],
     starts: &[u16],
-    marks: &[u8],
+    marks: &[Mark],
 ) -> Progress
     requires { Writable d i.now progress directory.now rows.now starts.now marks.now }
-    ensures { (g : GroupAt) (sets : Tally) → next_group d i.now progress.at ≡ Found g → GroupEntries d i.now g sets (drop progress.entry starts.now) (drop progress.entry marks.now) → WroteGroup d i.now progress g sets result out.old out.new }
+    ensures { (g : GroupAt) (sets : Tally) → next_group d i.now progress.at ≡ Some g → GroupEntries d i.now g sets (drop progress.entry starts.now) (drop progress.entry marks.now) → WroteGroup d i.now progress g sets result out.old out.new }
 {
     let entry = progress.entry;
     let starts = &starts[entry..];
@@ -181,20 +187,20 @@ pub(crate) fn add_transaction(
     let sets = tally_of(marks);
     let received = sets.received;
     let gs_end = text::find(i, progress.at, d.terminator);
-    let body_end = gs_end + 1 + starts[received] as usize;
+    let body_end = gs_end + 1 + usize::from(starts[received]);
     let group = envelope::group_ending(i, d, progress.at, body_end);
     let gs = text::part(i, group.gs, group.gs_end);
     let body = text::part(i, group.body, group.body_end);
-    let ge = text::part(i, group.body_end, group.ge_end);
+    let ge = trailer_of(i, group);
     let scope = guides::scope_of(gs, d);
     let reading = Reading {
         delimiters: d,
         scope,
     };
-    let summary = verdicts::summary_of(gs, ge, group.closed, d, scope, sets);
+    let summary = verdicts::summary_of(gs, ge, d, scope, sets);
     let number = progress.number;
     let n = add_beginning(out, progress.length, d, gs, number);
-    let rest = writing::clipped(n, out.len());
+    let rest = n.min(out.len());
     let told = put_sets(
         &mut out[rest..],
         body,
@@ -205,7 +211,7 @@ pub(crate) fn add_transaction(
         marks,
         received,
     );
-    let n = writing::joined(n, told.length);
+    let n = n.saturating_add(told.length);
     Progress {
         at: group.next,
         entry: entry + received + 1,

@@ -4,8 +4,9 @@ ghost use Rattle.std.specs.Prelude.{◌≡◌, ◌&&◌, ◌/◌, ◌%◌, leb};
 ghost use Rattle.rules.specs.Base.{between, first};
 ghost use Rattle.rules.specs.Numbers.{is_day};
 ghost use Rattle.rules.specs.Refusals.{call_rules};
+ghost use Rattle.rules.specs.Refused.{unless};
 
-use rules::Call;
+use rules::{Call, Refusal};
 
 fn is_date(date: u32) -> bool
     ensures { result ≡ (leb date 99991231 && is_day date) }
@@ -22,21 +23,16 @@ fn is_time(time: u32) -> bool
 fn is_control(control: u32) -> bool
     ensures { result ≡ between 1 999999999 control }
 {
-    1 <= control && control <= 999999999
+    (1..=999999999).contains(&control)
 }
 
-// Refusal 1, where the date is no day, the time no time or the control number out of its range; 0 where it is not due.
-pub fn call_refusal(call: Call) -> u8
-    ensures { result ≡ first (call_rules call) }
+// Refusal 1, where the date is no day, the time no time or the control number out of its range.
+pub fn check_call(call: Call) -> Result<(), Refusal>
+    ensures { result ≡ unless (first (call_rules call)) tt }
 {
-    if !is_date(call.date) {
-        return 1;
+    if is_date(call.date) && is_time(call.time) && is_control(call.control) {
+        Ok(())
+    } else {
+        Err(Refusal::BadCall)
     }
-    if !is_time(call.time) {
-        return 1;
-    }
-    if !is_control(call.control) {
-        return 1;
-    }
-    0
 }

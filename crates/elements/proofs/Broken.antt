@@ -1,5 +1,8 @@
 -- A syntax note is broken by what is present exactly where it is broken at one of a segment's places; and what is present stands in the marks.
-use Rattle.std.proofs.Common.{◌≡◌, ℕ, zero, suc, ◌+◌, ◌-◌, ◌*◌, ◌/◌, ◌%◌, ◌^◌, ◌<◌, ◌≤◌, Bool, true, false, not, ◌&&◌, ◌||◌, eqb, leb, List, [], ◌∷◌, length, get_or, drop, sym, refl, ap, ◌∙◌, pow-suc, add-one, arith, drop_of_length-le, drop-cons, pow_mono, lt-ltb, ne_eqb, eqb-true, leb-true, if◌then◌else◌}
+use Rattle.std.proofs.Common.{◌≡◌, ℕ, zero, suc, ◌+◌, ◌-◌, ◌*◌, ◌/◌, ◌%◌, ◌^◌, ◌<◌, ◌≤◌, Bool, true, false, not, ◌&&◌, ◌||◌, cond, eqb, leb, List, [], ◌∷◌, length, sym, refl, ap, ◌∙◌, pow-suc, add-one, arith, pow_mono, lt-ltb, ne_eqb, eqb-true, leb-true, if◌then◌else◌}
+use Rattle.std.proofs.lemmas.Bool.Decides.{nat_tests}
+use Rattle.std.proofs.lemmas.List.Sums.{sum_by-cons}
+use Rattle.std.specs.List.{count_by}
 use native.Mathlib.Nat.{pow-succ', div-div-eq-div-mul, div-eq_of_lt}
 use borrow.Author.Tests.{eqb-false}
 use Rattle.rules.specs.Base.{any, all, between}
@@ -17,19 +20,30 @@ use Rattle.elements.specs.Notes.{breaks}
 use Rattle.elements.specs.declared.Marks.{Marks}
 use Rattle.elements.proofs.Notes.{turned, pair, excluded_absent}
 
--- 1. Two places, at a cursor.
-module _ (p : ℕ → Bool) (ps : List ℕ) (k : ℕ) where
-  pub two_here : k < length ps → p (get_or ps k 0) ≡ true → two p (drop k ps) ≡ any p (drop (k + 1) ps)
-  unfolding two
-  two_here h e = rw (add-one, drop-cons ps k 0 h, e)
+-- 1. Two places, by how many there are.
+module _ (p : ℕ → Bool) where
+  -- one more is counted
+  count_more : (x : ℕ) (xs : List ℕ) → count_by p (x ∷ xs) ≡ cond (p x) 1 0 + count_by p xs
+  count_more x xs = sum_by-cons (λ y. cond (p y) 1 0) x xs
 
-  pub two_later : k < length ps → p (get_or ps k 0) ≡ false → two p (drop k ps) ≡ two p (drop (k + 1) ps)
-  unfolding two
-  two_later h e = rw (add-one, drop-cons ps k 0 h, e)
+  any_count : (ps : List ℕ) → any p ps ≡ leb 1 (count_by p ps)
+  unfolding any
+  any_count [] = refl
+  any_count (x ∷ xs) = rw count_more (go (p x) (any_count xs))
+    where
+      go : (b : Bool) → any p xs ≡ leb 1 (count_by p xs) → b || any p xs ≡ leb 1 (cond b 1 0 + count_by p xs)
+      go true e = grind (arith, nat_tests)
+      go false e = grind (arith, nat_tests)
 
-  pub two_none : length ps ≤ k → two p (drop k ps) ≡ false
+  pub two_count : (ps : List ℕ) → two p ps ≡ leb 2 (count_by p ps)
   unfolding two
-  two_none h = rw (drop_of_length-le ps {i = k} h)
+  two_count [] = refl
+  two_count (x ∷ xs) = rw count_more (go (p x) (any_count xs) (two_count xs))
+    where
+      go : (b : Bool) → any p xs ≡ leb 1 (count_by p xs) → two p xs ≡ leb 2 (count_by p xs)
+          → (if b then any p xs else two p xs) ≡ leb 2 (cond b 1 0 + count_by p xs)
+      go true e f = grind (arith, nat_tests)
+      go false e f = grind (arith, nat_tests)
 
 -- 2. A test of so many places, from place m on.
 unfoldable pub any_from : (ℕ → Bool) → ℕ → ℕ → Bool

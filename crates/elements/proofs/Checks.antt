@@ -1,5 +1,5 @@
 -- The check of a segment: one row after the other, and that what it finds is document 01's.
-use Rattle.std.proofs.Common.{◌≡◌, ℕ, zero, suc, ◌+◌, ◌-◌, ◌<◌, ◌≤◌, Bool, true, false, not, ◌&&◌, ◌||◌, eqb, ltb, List, [], ◌∷◌, ◌++◌, map, length, get_or, take, drop, sym, refl, ap, ◌∙◌, true≢false, zero-lt-suc, add-one, arith, length-append, drop_of_length-le, length-take, take_all, drop-cons, take-take, drop-drop, ltb-false, ltb-true, le-ltb, lt-ltb, if◌then◌else◌}
+use Rattle.std.proofs.Common.{◌≡◌, ℕ, zero, suc, ◌+◌, ◌-◌, ◌<◌, ◌≤◌, Bool, true, false, not, ◌&&◌, ◌||◌, eqb, ltb, List, [], ◌∷◌, ◌++◌, map, length, get_or, take, drop, sym, refl, ap, ◌∙◌, true≢false, zero-lt-suc, add-one, arith, length-append, drop_of_length-le, length-take, take_all, drop-cons, take-take, drop-drop, ltb-false, ltb-true, le-ltb, lt-ltb, if◌then◌else◌, Option, Some, None, is_some}
 use mathlib.Core.List.{map_congr_left}
 use Rattle.rules.specs.Base.{Bytes, null, any, every}
 use Rattle.rules.specs.Cutting.{split}
@@ -14,10 +14,9 @@ use Rattle.segments.proofs.Fields.{FieldAt, field_first, field_next, field_some,
 use Rattle.tables.specs.Rows.{is_row, rows_in, syntax_in}
 use Rattle.tables.specs.Reading.{Guide, entry_at, row_at, row_below}
 use Rattle.tables.proofs.Laws.{below_rest, rows_here, rows_skip, rows_stop, rows_end}
-use Rattle.elements.specs.Checks.{is_some, finding_in, beginning, echo_at, finding_by, given_codes, findings_at, note_row, is_coded, surplus, surplus_findings, codes_at, past, over, found_in, next_found, findings_in, findings_left, findings_from, start}
+use Rattle.elements.specs.Checks.{finding_in, beginning, echo_at, finding_by, given_codes, findings_at, place_after, note_row, field_after, is_coded, surplus, surplus_findings, codes_at, past, over, found_in, next_found, findings_in, findings_left, findings_from, start}
 use Rattle.elements.specs.declared.Cursor.{Cursor}
 use Rattle.elements.specs.declared.Found.{Found}
-use Rattle.elements.specs.declared.Found.TheVariants.{Codes, Nothing}
 use Rattle.elements.specs.declared.PlaceCodes.{PlaceCodes}
 use Rattle.elements.proofs.Places.{next_field, next_present, next_at, after_within, ascending_null, place_codes_lem}
 
@@ -81,7 +80,7 @@ echo_is s p c = go (is_echoed c p.own)
 
 -- 3. One row after the other.
 -- no note stands before the first
-abbrev is_end : List ℕ → Bool
+abbrev pub is_end : List ℕ → Bool
 is_end r = is_row 4 r || is_row 1 r
 
 notes_in : (xs : Guide) → syntax_in (drop (index_where is_end xs) xs) ≡ syntax_in xs
@@ -99,9 +98,18 @@ pub notes_from : (rows : Guide) (k : ℕ) → syntax_in (drop (note_row rows k) 
 unfolding note_row
 notes_from rows k = rw (← drop-drop (index_where is_end (drop k rows)) k rows) (notes_in (drop k rows))
 
+-- a place that has one after it
+one_on : (n : ℕ) → n < 18446744073709551615 → place_after n ≡ n + 1
+one_on n h = omega arith
+
 module _ (d : Delimiters) (s : Bytes) (rows : Guide) where
   -- at a cursor, by what the next row is
   module _ (c : Cursor) where
+    -- the value is what the next field has
+    pub value_is : (codes_at d s rows c).value ≡ field_after d.element s c.end
+    unfolding codes_at
+    value_is = refl
+
     here : c.row < length rows → drop c.row rows ≡ get_or rows c.row [] ∷ drop (c.row + 1) rows
     here h = rw add-one (drop-cons rows c.row [] h)
 
@@ -120,7 +128,7 @@ module _ (d : Delimiters) (s : Bytes) (rows : Guide) where
       found_over e f = rw (here h, e, f)
 
       module _ (e : is_row 1 (get_or rows c.row []) ≡ false) (f : is_row 2 (get_or rows c.row []) ≡ true) where
-        pub found_here : is_coded (codes_at d s rows c) ≡ true → next_found d s rows c ≡ Codes (codes_at d s rows c) (past d s rows c)
+        pub found_here : is_coded (codes_at d s rows c) ≡ true → next_found d s rows c ≡ Some (record { codes = codes_at d s rows c; next = past d s rows c })
         unfolding next_found found_in
         found_here g = rw (here h, e, f, g)
 
@@ -150,9 +158,9 @@ module _ (d : Delimiters) (s : Bytes) (rows : Guide) where
 
   -- 4. What is found next, and then the rest, is all that is found.
   -- what is found has a code
-  abbrev Coded : Found → Type 0
-  Coded (Codes p v) = is_coded p ≡ true
-  Coded Nothing = Unit {0}
+  abbrev Coded : Option Found → Type 0
+  Coded (Some f) = is_coded f.codes ≡ true
+  Coded None = Unit {0}
 
   abbrev Told : Cursor → Type 0
   Told c = (findings_left d s rows c ≡ findings_from d s rows (next_found d s rows c)) × Coded (next_found d s rows c)
@@ -195,12 +203,12 @@ module _ (d : Delimiters) (s : Bytes) (rows : Guide) where
   left_is c = (told_by (length rows) c (omega arith)).0
 
   -- what is found is one finding or more
-  pub left_fewer : (c : Cursor) {v : Cursor} {p : PlaceCodes} → next_found d s rows c ≡ Codes p v → length (findings_left d s rows v) < length (findings_left d s rows c)
-  left_fewer c {v} {p} e =
+  pub left_fewer : (c : Cursor) {f : Found} → next_found d s rows c ≡ Some f → length (findings_left d s rows f.next) < length (findings_left d s rows c)
+  left_fewer c {f} e =
       let told = told_by (length rows) c (omega arith) in
-      let coded : is_coded p ≡ true = rw e at told.1 in
+      let coded : is_coded f.codes ≡ true = rw e at told.1 in
       let all = told.0 ∙ ap (findings_from d s rows) e in
-      omega (arith, ap length all ∙ length-append (findings_at s p) (findings_left d s rows v), some_found s p coded)
+      omega (arith, ap length all ∙ length-append (findings_at s f.codes) (findings_left d s rows f.next), some_found s f.codes coded)
 
   pub left_none : (c : Cursor) → null (findings_left d s rows c) ≡ not (is_some (next_found d s rows c))
   left_none c = let told = told_by (length rows) c (omega arith) in rw told.0 (go (next_found d s rows c) told.1)
@@ -209,9 +217,9 @@ module _ (d : Delimiters) (s : Bytes) (rows : Guide) where
       some [] b h = absurd (omega arith)
       some (x ∷ a) b h = refl
 
-      go : (f : Found) → Coded f → null (findings_from d s rows f) ≡ not (is_some f)
-      go (Codes p v) h = some (findings_at s p) (findings_left d s rows v) (some_found s p h)
-      go Nothing h = refl
+      go : (f : Option Found) → Coded f → null (findings_from d s rows f) ≡ not (is_some f)
+      go (Some f) h = some (findings_at s f.codes) (findings_left d s rows f.next) (some_found s f.codes h)
+      go None h = refl
 
   -- 5. From a cursor that stands right on, all that is found is what document 01 finds.
   module _ (notes : List Syntax) where
@@ -223,7 +231,7 @@ module _ (d : Delimiters) (s : Bytes) (rows : Guide) where
 
     right_past : {c : Cursor} → Right c → c.place < 18446744073709551615 → Right (past d s rows c)
     right_past {c} r h =
-        rw (lt-ltb c.place 18446744073709551615 h) (record { at = next_at r.at r.within; within = after_within d.element s c.end refl; noted = r.noted })
+        rw (one_on c.place h) (record { at = next_at r.at r.within; within = after_within d.element s c.end refl; noted = r.noted })
 
     surplus_right : (c : Cursor) → Right c → surplus_findings s c ≡ law.findings_from d notes (split d.element s) c.place []
     unfolding law.findings_from
@@ -263,7 +271,7 @@ module _ (d : Delimiters) (s : Bytes) (rows : Guide) where
         turn l true e b f = rw (left_stop c l e, rows_stop rows c.row e) (surplus_right c r)
         turn l false e false f = rw (left_over c l e f, rows_skip rows c.row e f) (skip l)
         turn l false e true f =
-            rw (left_here c l e f, rows_here rows c.row f, codes_right c r, next l, lt-ltb c.place 18446744073709551615 h)
+            rw (left_here c l e f, rows_here rows c.row f, codes_right c r, next l, one_on c.place h)
 
         go : (b : Bool) → ltb c.row (length rows) ≡ b → Is c
         go true l = turn (ltb-true c.row (length rows) l) (is_row 1 (get_or rows c.row [])) refl (is_row 2 (get_or rows c.row [])) refl
@@ -276,7 +284,7 @@ module _ (d : Delimiters) (s : Bytes) (rows : Guide) where
     left_by (suc m) c h k r =
         left_row c r (omega arith)
         (λ l. left_by m (over d s rows c) (omega arith) (omega arith) (record { at = r.at; within = r.within; noted = r.noted }))
-        (λ l. left_by m (past d s rows c) (omega arith) (rw (lt-ltb c.place 18446744073709551615 (omega arith)) (omega arith)) (right_past r (omega arith)))
+        (λ l. left_by m (past d s rows c) (omega arith) (omega arith) (right_past r (omega arith)))
 
   -- from the start on it is what the segment's entry finds
   pub left_start : (k : ℕ) → length rows < 9223372036854775808

@@ -1,7 +1,11 @@
 -- The code of an element's value, test by test.
-use Rattle.std.proofs.Common.{◌≡◌, ℕ, Bool, true, false, not, ◌&&◌, eqb, ltb, leb, [], ◌∷◌, length, sym, refl, ◌∙◌, true≢false, arith, le-ltb, ne_eqb, leb-true, if◌then◌else◌}
-use Rattle.rules.specs.Base.{Bytes, null, all, any, between, ◌⇒◌, first}
+use Rattle.std.proofs.Common.{◌≡◌, Option, Some, None, Bool, true, false, not, ◌&&◌, eqb, ltb, leb, [], ◌∷◌, length, sym, refl, ap, ◌∙◌, true≢false, arith, le-ltb, ne_eqb, leb-true, if◌then◌else◌}
+use Rattle.std.specs.Prelude.{MatchOption}
+use Rattle.rules.specs.Base.{Bytes, null, all, any, ◌⇒◌, first}
 use Rattle.rules.specs.Cutting.{valid}
+use Rattle.rules.specs.Codes.{element_number}
+use Rattle.rules.specs.declared.ElementCode.{ElementCode}
+use Rattle.rules.proofs.Codes.{some_number}
 use Rattle.rules.specs.Elements.{is_n0, is_dt, is_tm, value_length, repeats, element_code}
 use Rattle.rules.specs.Numbers.{is_date, is_time}
 use Rattle.rules.specs.Tables.{Row}
@@ -10,9 +14,7 @@ use Rattle.rules.specs.declared.Kind.{Kind}
 use Rattle.rules.specs.declared.Kind.TheVariants.{AN, ID, N0, DT, TM}
 use Rattle.rules.proofs.Cuts.{valid_apart}
 use Rattle.rules.proofs.Logic.{and_left, and_right, all_head, all_tail, or_else}
-use Rattle.tables.specs.Reading.{element_row}
-use Rattle.tables.specs.declared.ElementRow.{ElementRow}
-use Rattle.elements.specs.Values.{is_text, unlisted, spelled_as, rule_code, value_code, takes_length, byte_code, row_code}
+use Rattle.elements.specs.Values.{is_text, unlisted, spelled_as, value_code, takes_length, byte_code, row_code}
 
 filled : (e : Bytes) → (length e ≡ 0 → ⊥) → null e ≡ false
 filled [] h = absurd (h refl)
@@ -35,21 +37,6 @@ in_order false true true true b u x y = refl
 in_order false true true false true u x y = refl
 in_order false true true false false true x y = refl
 in_order false true true false false false x y = refl
-
--- a rule that does not apply, behind another
-alone : (b : Bool) → first ((b ⇒ 8) ∷ []) ≡ first ((b ⇒ 8) ∷ (false ⇒ 9) ∷ [])
-unfolding first
-alone true = refl
-alone false = refl
-
--- the rule of a date and of a time
-module _ (e : Bytes) where
-  pub date_rule : first ((not (is_date e) ⇒ 8) ∷ []) ≡ rule_code DT e
-  date_rule = alone (not (is_date e))
-
-  pub time_rule : first ((not (is_time e) ⇒ 9) ∷ []) ≡ rule_code TM e
-  unfolding first
-  time_rule = refl
 
 -- the code of an element of valid bytes, where it is empty and where it is not
 module _ (r : Row) (e : Bytes) where
@@ -111,27 +98,6 @@ module _ (d : Delimiters) (r : Row) where
   code_is [] h = refl
   code_is (b ∷ e) h = sym (code_value (b ∷ e) (λ z. omega arith) (bytes_valid d (b ∷ e) h))
 
--- by what each test says of the row
-pub value_by : (r : Row) (e : Bytes) {row : ElementRow} → row ≡ element_row r
-    → {s : Bool} → s ≡ spelled_as row.kind e
-    → {n : ℕ} → n ≡ value_length row.kind e
-    → {u : Bool} → u ≡ unlisted r e
-    → {c : ℕ} → c ≡ rule_code row.kind e
-    → value_code r e ≡ if s then (if ltb n row.shortest then 4 else (if ltb row.longest n then 5 else (if u then 7 else c))) else 6
-unfolding value_code
-value_by r e h s n u c = rw (s, n, u, c, h)
-
-double : (b : Bool) → not (not b) ≡ b
-double true = refl
-double false = refl
-
-pub length_by : (r : Row) {row : ElementRow} → row ≡ element_row r
-    → {text : Bool} → text ≡ is_text row.kind
-    → {listed : Bool} → listed ≡ not (null r.codes)
-    → (n : ℕ) → takes_length r n ≡ text && (not listed && between row.shortest row.longest n)
-unfolding takes_length
-length_by r h t l n = rw (t, l, h, double (null r.codes))
-
 plain : (k : Kind) → is_text k ≡ true → (is_n0 k ≡ false) × (is_dt k ≡ false) × (is_tm k ≡ false)
 plain AN e = (refl, refl, refl)
 plain ID e = (refl, refl, refl)
@@ -158,3 +124,9 @@ takes_length_lem r e h =
       le-ltb (length e) r.shortest (leb-true r.shortest (length e) (and_left low high sized)),
       le-ltb r.longest (length e) (leb-true (length e) r.longest (and_right low high sized)),
     )
+
+pub code_else : (d : Delimiters) (r : Row) (e : Bytes) → (length e ≡ 0 → ⊥) → (b : Option ElementCode) → element_number b ≡ byte_code d e
+    → (o : Option ElementCode) {P : Type 0} → MatchOption b P (λ x. o ≡ Some x) → (P → element_number o ≡ value_code r e)
+    → element_number o ≡ element_code d r e
+code_else d r e h None n o m k = k m ∙ sym (code_value d r e h (sym n))
+code_else d r e h (Some c) n o m k = ap element_number m ∙ n ∙ sym (code_bytes d r e h (λ z. some_number c (n ∙ z)))

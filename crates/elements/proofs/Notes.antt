@@ -1,6 +1,9 @@
 -- Syntax notes: the relations test by test, the notes of an entry at a cursor, and which code a broken note gives.
-use Rattle.std.proofs.Common.{◌≡◌, ℕ, ◌+◌, ◌-◌, ◌<◌, ◌≤◌, Bool, true, false, not, ◌&&◌, ◌||◌, eqb, List, [], ◌∷◌, length, get_or, take, drop, sym, refl, true≢false, add-one, arith, length-drop, drop_of_length-le, take_all, drop-cons}
+use Rattle.std.proofs.Common.{◌≡◌, eqb, ℕ, ◌+◌, ◌-◌, ◌≤◌, Bool, true, false, not, ◌&&◌, ◌||◌, cond, ltb, suc, ◌∙◌, None, Some, if◌then◌else◌, List, [], ◌∷◌, length, get_or, take, drop, sym, refl, true≢false, add-one, arith, length-drop, drop_of_length-le, take_all}
+use Rattle.std.proofs.lemmas.Bool.Decides.{nat_tests}
+use Rattle.std.specs.List.{list_any, position, position_or_len}
 use mathlib.Core.Bool.{beq}
+use borrow.Author.Tests.{ltb-false}
 use Rattle.rules.specs.Base.{any}
 use Rattle.rules.specs.Cutting.{Segment}
 use Rattle.rules.specs.Elements.{present, is_place, after_present, lacking, excluded, shuts_out}
@@ -13,21 +16,48 @@ use Rattle.tables.specs.Reading.{Guide, note_at}
 use Rattle.tables.proofs.Laws.{notes_here, notes_skip, notes_stop, notes_end}
 use Rattle.elements.specs.Notes.{breaks, is_e}
 
--- 1. The places after the first present one, at a cursor.
-module _ (s : Segment) (ps : List ℕ) (k : ℕ) where
-  pub after_here : k < length ps → present s (get_or ps k 0) ≡ true → after_present s (drop k ps) ≡ drop (k + 1) ps
+-- 1. The places after the first present one.
+module _ (s : Segment) where
+  after_is : (ps : List ℕ) → after_present s ps ≡ drop (suc (position_or_len (present s) ps)) ps
   unfolding after_present
-  after_here h e = rw (add-one, drop-cons ps k 0 h, e)
+  after_is [] = refl
+  after_is (p ∷ ps) = go (present s p) (after_is ps)
+    where
+      r : ℕ
+      r = position_or_len (present s) ps
 
-  pub after_later : k < length ps → present s (get_or ps k 0) ≡ false → after_present s (drop k ps) ≡ after_present s (drop (k + 1) ps)
-  unfolding after_present
-  after_later h e = rw (add-one, drop-cons ps k 0 h, e)
+      go : (b : Bool) → after_present s ps ≡ drop (suc r) ps → (if b then ps else after_present s ps) ≡ drop (suc (cond (not b) (1 + r) 0)) (p ∷ ps)
+      go true e = refl
+      go false e = let more : 1 + r ≡ suc r = omega arith in rw (e, more)
 
-  pub after_none : length ps ≤ k → after_present s (drop k ps) ≡ drop k ps
-  unfolding after_present
-  after_none h = rw (drop_of_length-le ps {i = k} h)
+  module _ (ps : List ℕ) where
+    abbrev p : ℕ
+    p = position_or_len (present s) ps
 
--- 2. The relations, with the tests in the code's order.
+    pub after_some : {i : ℕ} → position (present s) ps ≡ Some i → after_present s ps ≡ drop (i + 1) ps
+    after_some {i} h = go (ltb p (length ps)) h
+      where
+        go : (b : Bool) → cond b (Some p) None ≡ Some i → after_present s ps ≡ drop (i + 1) ps
+        go true e = let same : p ≡ i = cc in rw (after_is ps, add-one, same)
+        go false e = absurd (cc)
+
+    pub after_none : position (present s) ps ≡ None → after_present s ps ≡ []
+    after_none h = go (ltb p (length ps)) refl h
+      where
+        go : (b : Bool) → ltb p (length ps) ≡ b → cond b (Some p) None ≡ None → after_present s ps ≡ []
+        go true l e = absurd (cc)
+        go false l e = let past = ltb-false p (length ps) l in after_is ps ∙ drop_of_length-le ps {i = suc p} (omega arith)
+
+-- 2. The relations.
+-- one of the places is n, as `contains` says it
+turned_test : (a b : ℕ) → eqb a b ≡ eqb b a
+turned_test a b = grind (arith, nat_tests)
+
+pub member-is : (n : ℕ) (ps : List ℕ) → list_any (λ p. eqb p n) ps ≡ is_place n ps
+unfolding any
+member-is n [] = refl
+member-is n (p ∷ ps) = rw (turned_test p n, member-is n ps)
+
 pub rest : (ps : List ℕ) (k : ℕ) → take (length ps - k) (drop k ps) ≡ drop k ps
 rest ps k = take_all (length ps - k) (drop k ps) (simp length-drop (omega arith))
 
@@ -42,50 +72,6 @@ turned false false c = refl
 module _ (s : Segment) (n : ℕ) where
   pub pair : (ps : List ℕ) → lacking s P ps n ≡ is_place n ps && (not (present s n) && any (present s) ps)
   pair ps = turned (any (present s) ps) (is_place n ps) (not (present s n))
-
-  pub one_none : (ps : List ℕ) → length ps ≡ 0 → lacking s R ps n ≡ false
-  one_none [] h = refl
-  one_none (p ∷ ps) h = absurd (omega arith)
-
-  pub one_some : (ps : List ℕ) → (length ps ≡ 0 → ⊥) → lacking s R ps n ≡ eqb n (get_or ps 0 0) && not (any (present s) ps)
-  one_some [] h = absurd (h refl)
-  one_some (p ∷ ps) h = refl
-
-  pub second : (ps : List ℕ) → excluded s E ps n ≡ present s n && is_place n (after_present s ps)
-  second ps = go (is_place n (after_present s ps)) (present s n)
-    where
-      go : (a b : Bool) → a && b ≡ b && a
-      go true true = refl
-      go true false = refl
-      go false true = refl
-      go false false = refl
-
-  pub other_none : (ps : List ℕ) → length ps ≡ 0 → lacking s C ps n ≡ false
-  other_none [] h = refl
-  other_none (p ∷ ps) h = absurd (omega arith)
-
-  pub other_some : (ps : List ℕ) → (length ps ≡ 0 → ⊥)
-      → lacking s C ps n ≡ is_place n (take (length ps - 1) (drop 1 ps)) && (not (present s n) && present s (get_or ps 0 0))
-  other_some [] h = absurd (h refl)
-  other_some (p ∷ ps) h = rw (rest (p ∷ ps) 1) (turned (present s p) (is_place n ps) (not (present s n)))
-
-  pub any_other_few : (ps : List ℕ) → length ps < 2 → lacking s L ps n ≡ false
-  any_other_few [] h = refl
-  any_other_few (p ∷ []) h = refl
-  any_other_few (p ∷ (q ∷ ps)) h = absurd (omega arith)
-
-  pub any_other_some : (ps : List ℕ) → 2 ≤ length ps
-      → lacking s L ps n ≡ eqb n (get_or ps 1 0) && (not (any (present s) (take (length ps - 1) (drop 1 ps))) && present s (get_or ps 0 0))
-  any_other_some [] h = absurd (omega arith)
-  any_other_some (p ∷ []) h = absurd (omega arith)
-  any_other_some (p ∷ (q ∷ ps)) h = rw (rest (p ∷ (q ∷ ps)) 1) (go (eqb n q) (present s p) (not (any (present s) (q ∷ ps))))
-    where
-      go : (a b c : Bool) → a && b && c ≡ a && (c && b)
-      go true true true = refl
-      go true true false = refl
-      go true false true = refl
-      go true false false = refl
-      go false b c = refl
 
 -- 3. A note asks only for what is absent, and shuts out only what is present.
 module _ (s : Segment) (n : ℕ) where

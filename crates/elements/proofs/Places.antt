@@ -1,7 +1,6 @@
 -- The places of a segment: one field after the other, and the codes of each.
-use Rattle.std.proofs.Common.{◌≡◌, ℕ, ◌+◌, ◌-◌, ◌<◌, ◌≤◌, min, max, Bool, true, false, not, ◌&&◌, eqb, ltb, List, [], ◌∷◌, length, drop, refl, ap, ◌∙◌, le_refl, add-zero, arith, length-drop, drop_of_length-le, length-take, ltb-false, ltb-true, le-ltb, lt-ltb, ne_eqb, eqb-true, if◌then◌else◌}
-use native.Mathlib.Nat.{le-max_left, le-max_right}
-use borrow.Author.Tests.{eqb-false}
+use Rattle.std.proofs.Common.{◌≡◌, ℕ, ◌+◌, ◌-◌, ◌<◌, ◌≤◌, min, max, Bool, true, false, not, ◌&&◌, eqb, ltb, List, [], ◌∷◌, length, drop, refl, ap, ◌∙◌, le_refl, add-zero, arith, length-drop, drop_of_length-le, length-take, ltb-false, ltb-true, le-ltb, lt-ltb, if◌then◌else◌}
+use Rattle.std.proofs.lemmas.Bool.Decides.{nat_tests}
 use lib.Seq.{take-nil}
 use Rattle.rules.specs.Base.{Bytes, null, between, ◌⇒◌, first, every}
 use Rattle.rules.specs.Cutting.{Segment, split, field}
@@ -12,7 +11,6 @@ use Rattle.rules.specs.declared.Delimiters.{Delimiters}
 use Rattle.rules.specs.declared.Span.{Span}
 use Rattle.rules.proofs.Repeating.{lacks_present}
 use Rattle.text.specs.Text.{index_where, part}
-use Rattle.text.proofs.Loops.{and_false}
 use Rattle.text.proofs.Search.{find_le}
 use Rattle.segments.proofs.Fields.{FieldAt, field_at, field_next, field_past, field_stay, present_length}
 use Rattle.elements.specs.Notes.{note_code_by}
@@ -93,20 +91,12 @@ ascending a b =
 
 pub ascending_null : (a b : ℕ) → null (ascending a b) ≡ eqb a 0 && eqb b 0
 unfolding every
-ascending_null a b = both (eqb (min a b) 0) (eqb (max a b) 0) ∙ go (eqb a 0) refl (eqb b 0) refl
+ascending_null a b = both (eqb (min a b) 0) (eqb (max a b) 0) ∙ grind (arith, nat_tests)
   where
     both : (x y : Bool) → null (every ((not x ⇒ min a b) ∷ (not y ⇒ max a b) ∷ [])) ≡ x && y
     both true true = refl
     both true false = refl
     both false y = refl
-
-    some : (max a b ≡ 0 → ⊥) → eqb (min a b) 0 && eqb (max a b) 0 ≡ false
-    some h = rw (ne_eqb (max a b) 0 h) (and_false (eqb (min a b) 0))
-
-    go : (x : Bool) → eqb a 0 ≡ x → (y : Bool) → eqb b 0 ≡ y → eqb (min a b) 0 && eqb (max a b) 0 ≡ x && y
-    go true p true q = rw (eqb-true a 0 p, eqb-true b 0 q)
-    go true p false q = some (λ z. eqb-false b 0 q (omega (arith, le-max_right a b)))
-    go false p y q = some (λ z. eqb-false a 0 p (omega (arith, le-max_left a b)))
 
 -- what the code of a value may be, by whether the value is empty
 data OwnIs : Bool → ℕ → Type 0 where

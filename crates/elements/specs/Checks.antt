@@ -1,5 +1,5 @@
 -- The check of a segment, place by place, as a function of the cursor: total, whatever the cursor says.
-use Rattle.std.specs.Prelude.{ℕ, ◌+◌, min, max, Bool, true, false, not, ◌||◌, List, [], ◌∷◌, ◌++◌, map, length, drop, ◌==◌, nat_lt, if◌then◌else◌}
+use Rattle.std.specs.Prelude.{ℕ, ◌+◌, min, max, Bool, not, ◌||◌, List, [], ◌∷◌, ◌++◌, map, length, drop, ◌==◌, nat_lt, if◌then◌else◌, Option, Some, None}
 use Rattle.rules.specs.Base.{Bytes, every, ◌⇒◌}
 use Rattle.rules.specs.Cutting.{split}
 use Rattle.rules.specs.Elements.{element_code, is_echoed, Finding, surplus_at}
@@ -12,13 +12,7 @@ use Rattle.text.specs.Text.{index_of, next_where, part}
 use Rattle.elements.specs.Notes.{note_code_by}
 use Rattle.elements.specs.declared.Cursor.{Cursor}
 use Rattle.elements.specs.declared.Found.{Found}
-use Rattle.elements.specs.declared.Found.TheVariants.{Codes, Nothing}
 use Rattle.elements.specs.declared.PlaceCodes.{PlaceCodes}
-
--- something is found
-abbrev pub is_some : Found → Bool
-is_some (Codes p c) = true
-is_some Nothing = false
 
 -- the law's finding for one that the program makes: the echoed bytes of the segment s in place of where they lie
 abbrev pub finding_in : Bytes → declared.Finding → Finding
@@ -51,7 +45,7 @@ findings_at s p = map (λ c. finding_in s (finding_by p c)) (given_codes p)
 
 -- the place after place n, as far as 64 bits go
 abbrev pub place_after : ℕ → ℕ
-place_after n = if nat_lt n 18446744073709551615 then n + 1 else n
+place_after n = min (n + 1) 18446744073709551615
 
 -- the first row from row k on that is a note or a segment
 unfoldable pub note_row : Guide → ℕ → ℕ
@@ -70,12 +64,14 @@ abbrev pub is_coded : PlaceCodes → Bool
 is_coded p = not (p.own == 0) || not (p.noted == 0)
 
 -- after the rows, one more element has code 3
-unfoldable pub surplus : Bytes → Cursor → Found
+unfoldable pub surplus : Bytes → Cursor → Option Found
 surplus s c =
     if nat_lt c.end (length s)
-    then Codes (record { place = c.place; reference = 0; own = 3; noted = 0; value = record { start = 0; end = 0 } })
-    (record { notes = c.notes; row = c.row; place = c.place; end = length s })
-    else Nothing
+    then Some (record {
+      codes = record { place = c.place; reference = 0; own = 3; noted = 0; value = record { start = 0; end = 0 } };
+      next = record { notes = c.notes; row = c.row; place = c.place; end = length s };
+    })
+    else None
 
 abbrev pub surplus_findings : Bytes → Cursor → List Finding
 surplus_findings s c = if nat_lt c.end (length s) then surplus_at c.place ∷ [] else []
@@ -103,15 +99,15 @@ module _ (d : Delimiters) (s : Bytes) (rows : Guide) where
   over c = record { notes = c.notes; row = c.row + 1; place = c.place; end = c.end }
 
   -- what is found next among the rows that are left
-  unfoldable pub found_in : Guide → Cursor → Found
+  unfoldable pub found_in : Guide → Cursor → Option Found
   found_in [] c = surplus s c
   found_in (r ∷ rs) c =
       let later = found_in rs (past c) in
       let skipped = found_in rs (over c) in
       if is_row 1 r then surplus s c
-      else (if is_row 2 r then (if is_coded (codes_at c) then Codes (codes_at c) (past c) else later) else skipped)
+      else (if is_row 2 r then (if is_coded (codes_at c) then Some (record { codes = codes_at c; next = past c }) else later) else skipped)
 
-  unfoldable pub next_found : Cursor → Found
+  unfoldable pub next_found : Cursor → Option Found
   next_found c = found_in (drop c.row rows) c
 
   -- all that is found among them
@@ -127,9 +123,9 @@ module _ (d : Delimiters) (s : Bytes) (rows : Guide) where
   findings_left c = findings_in (drop c.row rows) c
 
   -- the findings from what is found on
-  abbrev pub findings_from : Found → List Finding
-  findings_from (Codes p c) = findings_at s p ++ findings_left c
-  findings_from Nothing = []
+  abbrev pub findings_from : Option Found → List Finding
+  findings_from (Some f) = findings_at s f.codes ++ findings_left f.next
+  findings_from None = []
 
   -- where the check by the entry of row k starts
   unfoldable pub start : ℕ → Cursor

@@ -1,123 +1,84 @@
 #![tactic(auto)]
 // Notes on elements: the code of a value by its row, the syntax notes, and the findings of a segment, one place after the other.
-ghost use Rattle.std.specs.Prelude.{◌≡◌, ◌+◌, ◌<◌, min, max, true, not, ◌&&◌, [], ◌∷◌, drop, ◌==◌, slice_index, slice_index_or};
+ghost use Rattle.std.specs.Prelude.{◌≡◌, min, max, ◌&&◌, [], ◌∷◌, drop, ◌==◌, slice_index_or, Some};
 ghost use Rattle.rules.specs.Base.{◌⇒◌, first, any, all};
 ghost use Rattle.rules.specs.Cutting.{split};
+ghost use Rattle.rules.specs.Codes.{element_number};
 ghost use Rattle.rules.specs.Elements as law;
-ghost use Rattle.rules.specs.Numbers.{is_date, is_time};
 ghost use Rattle.tables.specs.Rows as rows;
 ghost use Rattle.tables.specs.Reading.{row_at, note_at};
-ghost use Rattle.elements.specs.Values.{is_text, unlisted, spelled_as, rule_code, value_code, takes_length, byte_code, row_code};
+ghost use Rattle.elements.specs.Values.{unlisted, spelled_as, rule_code, value_code, takes_length, byte_code, row_code};
 ghost use Rattle.elements.specs.Notes.{is_e, breaks, note_code_by};
 ghost use Rattle.elements.specs.Marks.{no_marks, marked_with, marked, two, broken_by, breaks_note};
-ghost use Rattle.elements.specs.Checks.{is_some, beginning, echo_at, finding_by, place_after, note_row, next_start, field_after, codes_at, surplus, next_found, start};
+ghost use Rattle.elements.specs.Checks.{is_coded, beginning, echo_at, finding_by, note_row, next_start, field_after, codes_at, surplus, next_found, start};
 
 use rules::{Delimiters, ElementCode, Finding, Kind, Relation, Span};
-
-fn date_code(e: &[u8]) -> u8
-    ensures { result ≡ first ((not (is_date e.now) ⇒ 8) ∷ []) }
-{
-    if dates::is_date(e) {
-        0
-    } else {
-        ElementCode::NO_DATE
-    }
-}
-
-fn time_code(e: &[u8]) -> u8
-    ensures { result ≡ first ((not (is_time e.now) ⇒ 9) ∷ []) }
-{
-    if text::is_time(e) {
-        0
-    } else {
-        ElementCode::NO_TIME
-    }
-}
+use tables::Places;
 
 // Outside the code values of row k, where it has any.
 fn is_unlisted(e: &[u8], guide: &[[u16; 6]], k: usize) -> bool
     ensures { result ≡ unlisted (row_at guide.now k) e.now }
 {
-    if !tables::has_values(guide, k) {
-        return false;
-    }
-    !tables::is_listed(guide, k, e)
+    tables::has_values(guide, k) && !tables::is_listed(guide, k, e)
 }
 
-fn empty_code(guide: &[[u16; 6]], k: usize) -> u8
-    ensures { result ≡ first (((row_at guide.now k).mandatory ⇒ 1) ∷ []) }
+// The code of an empty element by row k.
+fn empty_code(guide: &[[u16; 6]], k: usize) -> Option<ElementCode>
+    ensures { element_number result ≡ first (((row_at guide.now k).mandatory ⇒ 1) ∷ []) }
 {
     let row = tables::element_at(guide, k);
-    if row.mandatory {
-        ElementCode::MISSING
-    } else {
-        0
-    }
-}
-
-fn is_number(kind: Kind) -> bool
-    ensures { result ≡ law.is_n0 kind }
-{
-    match kind {
-        Kind::AN => false,
-        Kind::ID => false,
-        Kind::N0 => true,
-        Kind::DT => false,
-        Kind::TM => false,
-    }
+    row.mandatory.then_some(ElementCode::Missing)
 }
 
 // Of a number: nothing but digits after an optional minus.
 fn is_spelled(e: &[u8], kind: Kind) -> bool
     ensures { result ≡ spelled_as kind e.now }
 {
-    if !is_number(kind) {
-        return true;
-    }
-    text::all_digits(text::unsigned(e))
+    kind != Kind::N0 || text::all_digits(text::unsigned(e))
 }
 
 // How long a value counts: the minus of a number does not.
 fn value_length(e: &[u8], kind: Kind) -> usize
     ensures { result ≡ law.value_length kind e.now }
 {
-    if is_number(kind) {
-        return text::unsigned(e).len();
-    }
-    e.len()
+    let counted = if kind == Kind::N0 {
+        text::unsigned(e)
+    } else {
+        e
+    };
+    counted.len()
 }
 
 // The code of the type's own rule.
-fn rule_code(e: &[u8], kind: Kind) -> u8
-    ensures { result ≡ rule_code kind e.now }
+#[tactic(auto, unfolding(rules::specs::Base::first))]
+fn rule_code(e: &[u8], kind: Kind) -> Option<ElementCode>
+    ensures { element_number result ≡ rule_code kind e.now }
 {
     match kind {
-        Kind::AN => 0,
-        Kind::ID => 0,
-        Kind::N0 => 0,
-        Kind::DT => date_code(e),
-        Kind::TM => time_code(e),
+        Kind::DT if !dates::is_date(e) => Some(ElementCode::NoDate),
+        Kind::TM if !text::is_time(e) => Some(ElementCode::NoTime),
+        _ => None,
     }
 }
 
-// The code of a value of valid bytes, which is not empty, by row k; 0 for none.
-fn value_code(e: &[u8], guide: &[[u16; 6]], k: usize) -> u8
-    ensures { result ≡ value_code (row_at guide.now k) e.now }
+// The code of a value of valid bytes, which is not empty, by row k.
+fn value_code(e: &[u8], guide: &[[u16; 6]], k: usize) -> Option<ElementCode>
+    ensures { element_number result ≡ value_code (row_at guide.now k) e.now }
 {
     let row = tables::element_at(guide, k);
     let kind = row.kind;
     if !is_spelled(e, kind) {
-        return ElementCode::BAD_BYTE;
+        return Some(ElementCode::BadByte);
     }
     let length = value_length(e, kind);
     if length < row.shortest {
-        return ElementCode::TOO_SHORT;
+        return Some(ElementCode::TooShort);
     }
     if row.longest < length {
-        return ElementCode::TOO_LONG;
+        return Some(ElementCode::TooLong);
     }
     if is_unlisted(e, guide, k) {
-        return ElementCode::NOT_LISTED;
+        return Some(ElementCode::NotListed);
     }
     rule_code(e, kind)
 }
@@ -126,55 +87,31 @@ fn value_code(e: &[u8], guide: &[[u16; 6]], k: usize) -> u8
 fn repeats(e: &[u8], d: Delimiters) -> bool
     ensures { result ≡ law.repeats d e.now }
 {
-    let mut i = 0;
-    while i < e.len() {
-        if d.separates_repetitions(e[i]) {
-            return true;
-        }
-        i += 1;
-    }
-    false
+    e.iter().any(|&b| d.separates_repetitions(b))
 }
 
-// The code of a value by its bytes alone, 0 where all are valid. The repetition separator is no valid byte, so valid ones are not searched for it.
-fn byte_code(e: &[u8], d: Delimiters) -> u8
-    ensures { result ≡ byte_code d e.now }
+// The code of a value by its bytes alone. The repetition separator is no valid byte, so valid ones are not searched for it.
+fn byte_code(e: &[u8], d: Delimiters) -> Option<ElementCode>
+    ensures { element_number result ≡ byte_code d e.now }
 {
     if text::all_valid(e, d) {
-        return 0;
+        return None;
     }
     if repeats(e, d) {
-        ElementCode::TOO_MANY_REPETITIONS
+        Some(ElementCode::TooManyRepetitions)
     } else {
-        ElementCode::BAD_BYTE
+        Some(ElementCode::BadByte)
     }
 }
 
-// The code of an element by row k, 0 for none.
-fn element_code(e: &[u8], d: Delimiters, guide: &[[u16; 6]], k: usize) -> u8
-    ensures { result ≡ law.element_code d (row_at guide.now k) e.now }
+// The code of an element by row k.
+fn element_code(e: &[u8], d: Delimiters, guide: &[[u16; 6]], k: usize) -> Option<ElementCode>
+    ensures { element_number result ≡ law.element_code d (row_at guide.now k) e.now }
 {
-    if e.len() == 0 {
+    if e.is_empty() {
         return empty_code(guide, k);
     }
-    let code = byte_code(e, d);
-    if code != 0 {
-        return code;
-    }
-    value_code(e, guide, k)
-}
-
-// A type without a rule of its own.
-fn is_text(kind: Kind) -> bool
-    ensures { result ≡ is_text kind }
-{
-    match kind {
-        Kind::AN => true,
-        Kind::ID => true,
-        Kind::N0 => false,
-        Kind::DT => false,
-        Kind::TM => false,
-    }
+    byte_code(e, d).or_else(|| value_code(e, guide, k))
 }
 
 // Row k asks of a text only how long it is, and takes this length.
@@ -182,145 +119,77 @@ pub fn takes_length(n: usize, guide: &[[u16; 6]], k: usize) -> bool
     ensures { result ≡ takes_length (row_at guide.now k) n }
 {
     let row = tables::element_at(guide, k);
-    let kind = row.kind;
-    if !is_text(kind) {
-        return false;
-    }
-    if tables::has_values(guide, k) {
-        return false;
-    }
-    row.shortest <= n && n <= row.longest
+    matches!(row.kind, Kind::AN | Kind::ID)
+        && !tables::has_values(guide, k)
+        && (row.shortest..=row.longest).contains(&n)
 }
 
 // An element of valid bytes has no code by row k.
 pub fn takes(e: &[u8], guide: &[[u16; 6]], k: usize) -> bool
     ensures { result ≡ (row_code (row_at guide.now k) e.now == 0) }
 {
-    if e.len() == 0 {
-        return empty_code(guide, k) == 0;
+    if e.is_empty() {
+        return empty_code(guide, k).is_none();
     }
-    value_code(e, guide, k) == 0
-}
-
-// The place at i, 0 past the end.
-fn place_at(places: &[usize], i: usize) -> usize
-    ensures { result ≡ slice_index places.now i }
-{
-    if i < places.len() {
-        return places[i];
-    }
-    0
-}
-
-// n is one of the places.
-fn is_place(n: usize, places: &[usize]) -> bool
-    ensures { result ≡ law.is_place n places.now }
-{
-    let mut i = 0;
-    while i < places.len() {
-        if n == place_at(places, i) {
-            return true;
-        }
-        i += 1;
-    }
-    false
+    value_code(e, guide, k).is_none()
 }
 
 // One of the places is present.
 fn any_present(s: &[u8], e: u8, places: &[usize]) -> bool
     ensures { result ≡ any (law.present (split e s.now)) places.now }
 {
-    let mut i = 0;
-    while i < places.len() {
-        if segments::is_present(s, e, place_at(places, i)) {
-            return true;
-        }
-        i += 1;
-    }
-    false
+    places.iter().any(|&n| segments::is_present(s, e, n))
 }
 
 // The places after the first present one.
 fn after_present<'a>(s: &[u8], e: u8, places: &'a [usize]) -> &'a [usize]
     ensures { result.now ≡ law.after_present (split e s.now) places.now }
 {
-    let mut i = 0;
-    while i < places.len() {
-        let place = place_at(places, i);
-        i += 1;
-        if segments::is_present(s, e, place) {
-            return &places[i..];
-        }
+    match places.iter().position(|&n| segments::is_present(s, e, n)) {
+        Some(i) => &places[i + 1..],
+        None => &[],
     }
-    &places[i..]
 }
 
 // P: another place is present, and n is absent.
 fn lacks_pair(s: &[u8], e: u8, places: &[usize], n: usize) -> bool
     ensures { result ≡ law.lacking (split e s.now) Relation.P places.now n }
 {
-    if !is_place(n, places) {
-        return false;
-    }
-    if segments::is_present(s, e, n) {
-        return false;
-    }
-    any_present(s, e, places)
+    places.contains(&n) && !segments::is_present(s, e, n) && any_present(s, e, places)
 }
 
 // R: none is present, and n is the first.
 fn lacks_one(s: &[u8], e: u8, places: &[usize], n: usize) -> bool
     ensures { result ≡ law.lacking (split e s.now) Relation.R places.now n }
 {
-    if places.len() == 0 {
-        return false;
-    }
-    if n != place_at(places, 0) {
-        return false;
-    }
-    !any_present(s, e, places)
+    places.first() == Some(&n) && !any_present(s, e, places)
 }
 
 // E: n is present after another.
 fn is_second(s: &[u8], e: u8, places: &[usize], n: usize) -> bool
     ensures { result ≡ law.excluded (split e s.now) Relation.E places.now n }
 {
-    if !segments::is_present(s, e, n) {
-        return false;
-    }
-    is_place(n, after_present(s, e, places))
+    segments::is_present(s, e, n) && after_present(s, e, places).contains(&n)
 }
 
 // C: the first is present, and n of the others is absent.
 fn lacks_other(s: &[u8], e: u8, places: &[usize], n: usize) -> bool
     ensures { result ≡ law.lacking (split e s.now) Relation.C places.now n }
 {
-    if places.len() == 0 {
+    let [first, others @ ..] = places else {
         return false;
-    }
-    if !is_place(n, &places[1..]) {
-        return false;
-    }
-    if segments::is_present(s, e, n) {
-        return false;
-    }
-    segments::is_present(s, e, place_at(places, 0))
+    };
+    others.contains(&n) && !segments::is_present(s, e, n) && segments::is_present(s, e, *first)
 }
 
 // L: the first is present and no other, and n is the second.
 fn lacks_any_other(s: &[u8], e: u8, places: &[usize], n: usize) -> bool
     ensures { result ≡ law.lacking (split e s.now) Relation.L places.now n }
 {
-    if places.len() < 2 {
+    let [first, others @ ..] = places else {
         return false;
-    }
-    if n != place_at(places, 1) {
-        return false;
-    }
-    if any_present(s, e, &places[1..]) {
-        return false;
-    }
-    segments::is_present(s, e, place_at(places, 0))
+    };
+    others.first() == Some(&n) && !any_present(s, e, others) && segments::is_present(s, e, *first)
 }
 
 // The relation between the places is broken at place n: an element lacks there, or one is shut out.
@@ -336,19 +205,6 @@ fn is_broken(relation: Relation, s: &[u8], e: u8, places: &[usize], n: usize) ->
     }
 }
 
-// E shuts out what is present; each other relation asks for what is absent.
-fn shuts_out(relation: Relation) -> bool
-    ensures { result ≡ is_e relation }
-{
-    match relation {
-        Relation::P => false,
-        Relation::R => false,
-        Relation::E => true,
-        Relation::C => false,
-        Relation::L => false,
-    }
-}
-
 // Row k is a note that is broken at place n, which is present or absent.
 fn breaks_note(s: &[u8], e: u8, guide: &[[u16; 6]], k: usize, n: usize, present: bool) -> bool
     ensures { result ≡ (rows.is_row 4 (slice_index_or guide.now k []) && breaks present (split e s.now) n (note_at guide.now k)) }
@@ -357,12 +213,11 @@ fn breaks_note(s: &[u8], e: u8, guide: &[[u16; 6]], k: usize, n: usize, present:
         return false;
     }
     let relation = tables::relation_at(guide, k);
-    if shuts_out(relation) != present {
+    // E shuts out what is present; each other relation asks for what is absent.
+    if (relation == Relation::E) != present {
         return false;
     }
-    let places = tables::places_at(guide, k);
-    let numbers = places.numbers;
-    let count = places.count;
+    let Places { numbers, count } = tables::places_at(guide, k);
     is_broken(relation, s, e, &numbers[..count], n)
 }
 
@@ -370,30 +225,35 @@ fn breaks_note(s: &[u8], e: u8, guide: &[[u16; 6]], k: usize, n: usize, present:
 fn breaks_notes(s: &[u8], e: u8, guide: &[[u16; 6]], from: usize, n: usize, present: bool) -> bool
     ensures { result ≡ any (breaks present (split e s.now) n) (rows.syntax_in (drop from guide.now)) }
 {
-    let mut k = from;
-    while k < guide.len() {
+    for k in from..guide.len() {
         if tables::is_segment(guide, k) {
             return false;
         }
         if breaks_note(s, e, guide, k, n, present) {
             return true;
         }
-        k += 1;
     }
     false
 }
 
 // The code that the notes from row `from` on give place n: what is present is shut out (10), and what is absent is asked for (2).
-fn note_code(s: &[u8], e: u8, guide: &[[u16; 6]], from: usize, n: usize, present: bool) -> u8
-    ensures { result ≡ note_code_by present (rows.syntax_in (drop from guide.now)) (split e s.now) n }
+fn note_code(
+    s: &[u8],
+    e: u8,
+    guide: &[[u16; 6]],
+    from: usize,
+    n: usize,
+    present: bool,
+) -> Option<ElementCode>
+    ensures { element_number result ≡ note_code_by present (rows.syntax_in (drop from guide.now)) (split e s.now) n }
 {
     if !breaks_notes(s, e, guide, from, n, present) {
-        return 0;
+        return None;
     }
     if present {
-        ElementCode::SHUT_OUT
+        Some(ElementCode::ShutOut)
     } else {
-        ElementCode::MISSING_BY_NOTE
+        Some(ElementCode::MissingByNote)
     }
 }
 
@@ -408,38 +268,34 @@ pub struct Cursor {
 }
 
 // A code whose AK4 shows the value.
+#[tactic(auto, unfolding(rules::specs::Base::any))]
 fn shows_value(code: u8) -> bool
     ensures { result ≡ law.shows_value code }
 {
-    (code == ElementCode::TOO_SHORT)
-        | (code == ElementCode::TOO_LONG)
-        | (code == ElementCode::NOT_LISTED)
-        | (code == ElementCode::NO_DATE)
-        | (code == ElementCode::NO_TIME)
-        | (code == ElementCode::SHUT_OUT)
+    code == ElementCode::TooShort as u8
+        || code == ElementCode::TooLong as u8
+        || code == ElementCode::NotListed as u8
+        || code == ElementCode::NoDate as u8
+        || code == ElementCode::NoTime as u8
+        || code == ElementCode::ShutOut as u8
 }
 
 // A value with this code of its own is echoed under no code.
+#[tactic(auto, unfolding(rules::specs::Base::any))]
 fn is_withheld(own: u8) -> bool
     ensures { result ≡ law.is_withheld own }
 {
-    (own == ElementCode::BAD_BYTE) | (own == ElementCode::TOO_MANY_REPETITIONS)
+    own == ElementCode::BadByte as u8 || own == ElementCode::TooManyRepetitions as u8
 }
 
 // As much of a value as is echoed: its first bytes. A span that ends before it starts has no length, and stays as it is.
 fn beginning(value: Span) -> Span
     ensures { result ≡ beginning value }
 {
-    let start = value.start;
-    if value.end <= start {
-        return value;
-    }
-    if value.end - start <= Finding::LONGEST_ECHO {
-        return value;
-    }
+    let longest = value.start.saturating_add(Finding::LONGEST_ECHO);
     Span {
-        start,
-        end: start + Finding::LONGEST_ECHO,
+        start: value.start,
+        end: value.end.min(longest),
     }
 }
 
@@ -458,33 +314,31 @@ impl PlaceCodes {
     pub fn lower(self) -> u8
         ensures { result ≡ min self.own self.noted }
     {
-        if self.own <= self.noted {
-            self.own
-        } else {
-            self.noted
-        }
+        self.own.min(self.noted)
     }
 
     // The higher of them, 0 where there is none.
     pub fn higher(self) -> u8
         ensures { result ≡ max self.own self.noted }
     {
-        if self.own <= self.noted {
-            self.noted
-        } else {
-            self.own
-        }
+        self.own.max(self.noted)
+    }
+
+    // There is a code.
+    fn is_coded(self) -> bool
+        ensures { result ≡ is_coded self }
+    {
+        self.own != 0 || self.noted != 0
     }
 
     // Where the echo under one of the codes lies.
     fn echo(self, code: u8) -> Span
         ensures { result ≡ echo_at self code }
     {
-        let value = self.value;
-        if shows_value(code) & !is_withheld(self.own) {
-            return beginning(value);
+        if shows_value(code) && !is_withheld(self.own) {
+            return beginning(self.value);
         }
-        let start = value.start;
+        let start = self.value.start;
         Span { start, end: start }
     }
 
@@ -498,57 +352,28 @@ impl PlaceCodes {
 
 // What a check finds next: the codes of a place that has any, and where it goes on.
 #[derive(Clone, Copy)]
-pub enum Found {
-    Codes(PlaceCodes, Cursor),
-    Nothing,
-}
-
-impl Found {
-    // Something is found.
-    pub fn is_some(self) -> bool
-        ensures { result ≡ is_some self }
-    {
-        match self {
-            Found::Codes(_, _) => true,
-            Found::Nothing => false,
-        }
-    }
-}
-
-const LARGEST: usize = 18446744073709551615;
-
-// The place after place n, as far as 64 bits go.
-fn place_after(n: usize) -> usize
-    ensures { result ≡ place_after n }
-{
-    if n < LARGEST {
-        return n + 1;
-    }
-    n
+pub struct Found {
+    pub codes: PlaceCodes,
+    pub next: Cursor,
 }
 
 // The first note or segment from row `from` on; the number of rows where there is none, and `from` where that is past the end.
 fn first_note(guide: &[[u16; 6]], from: usize) -> usize
     ensures { result ≡ note_row guide.now from }
 {
-    let mut k = from;
-    while k < guide.len() {
-        if tables::is_note(guide, k) | tables::is_segment(guide, k) {
+    for k in from..guide.len() {
+        if tables::is_note(guide, k) || tables::is_segment(guide, k) {
             return k;
         }
-        k += 1;
     }
-    k
+    from.max(guide.len())
 }
 
 // Where the field starts that follows the one which ends at `end`; the segment's end where none follows.
 fn next_start(s: &[u8], end: usize) -> usize
     ensures { result ≡ next_start s.now end }
 {
-    if end < s.len() {
-        return end + 1;
-    }
-    s.len()
+    end.saturating_add(1).min(s.len())
 }
 
 // The field that follows the one which ends at `end`.
@@ -582,13 +407,13 @@ impl Marks {
         ensures { result ≡ marked_with self present }
     {
         let bits = if present {
-            std::num::wrapping_add_usize(self.bits, self.next)
+            self.bits.wrapping_add(self.next)
         } else {
             self.bits
         };
         Marks {
             bits,
-            next: self.next % 9223372036854775808 * 2,
+            next: self.next << 1,
         }
     }
 
@@ -596,60 +421,38 @@ impl Marks {
     fn has(self, n: usize) -> bool
         ensures { result ≡ marked self n }
     {
-        (self.bits >> (n % 64)) % 2 == 1
+        (self.bits >> (n % 64)) & 1 == 1
     }
 
     // One of the places is present.
     fn any_of(self, places: &[usize]) -> bool
         ensures { result ≡ any (marked self) places.now }
     {
-        let mut i = 0;
-        while i < places.len() {
-            if self.has(place_at(places, i)) {
-                return true;
-            }
-            i += 1;
-        }
-        false
+        places.iter().any(|&n| self.has(n))
     }
 
     // All of the places are present.
     fn all_of(self, places: &[usize]) -> bool
         ensures { result ≡ all (marked self) places.now }
     {
-        let mut i = 0;
-        while i < places.len() {
-            if !self.has(place_at(places, i)) {
-                return false;
-            }
-            i += 1;
-        }
-        true
+        places.iter().all(|&n| self.has(n))
     }
 
     // Two of the places are present.
     fn two_of(self, places: &[usize]) -> bool
         ensures { result ≡ two (marked self) places.now }
     {
-        let mut i = 0;
-        while i < places.len() {
-            let place = place_at(places, i);
-            i += 1;
-            if self.has(place) {
-                return self.any_of(&places[i..]);
-            }
-        }
-        false
+        2 <= places.iter().filter(|&&n| self.has(n)).count()
     }
 
     // Of two places at least, the first is present and no other.
     fn only_first(self, places: &[usize]) -> bool
         ensures { result ≡ broken_by (marked self) Relation.L places.now }
     {
-        if places.len() < 2 {
+        let [first, others @ ..] = places else {
             return false;
-        }
-        self.has(place_at(places, 0)) & !self.any_of(&places[1..])
+        };
+        !others.is_empty() && self.has(*first) && !self.any_of(others)
     }
 
     // The relation between the places is broken somewhere.
@@ -657,10 +460,10 @@ impl Marks {
         ensures { result ≡ broken_by (marked self) relation places.now }
     {
         match relation {
-            Relation::P => self.any_of(places) & !self.all_of(places),
-            Relation::R => (0 < places.len()) & !self.any_of(places),
+            Relation::P => self.any_of(places) && !self.all_of(places),
+            Relation::R => !places.is_empty() && !self.any_of(places),
             Relation::E => self.two_of(places),
-            Relation::C => self.has(place_at(places, 0)) & !self.all_of(places),
+            Relation::C => places.first().is_some_and(|&n| self.has(n)) && !self.all_of(places),
             Relation::L => self.only_first(places),
         }
     }
@@ -673,91 +476,80 @@ impl Marks {
             return false;
         }
         let relation = tables::relation_at(guide, k);
-        let places = tables::places_at(guide, k);
-        let numbers = places.numbers;
-        let count = places.count;
+        let Places { numbers, count } = tables::places_at(guide, k);
         self.breaks(relation, &numbers[..count])
     }
 }
 
-// The codes of the next place by the element of the next row, in the next field.
-fn codes_at(s: &[u8], d: Delimiters, guide: &[[u16; 6]], c: Cursor, field: Span) -> PlaceCodes
-    requires { field ≡ field_after d.element s.now c.end }
-    ensures { result ≡ codes_at d s.now guide.now c }
+// The number of a code, 0 for none.
+fn number(code: Option<ElementCode>) -> u8
+    ensures { result ≡ element_number code }
 {
-    let start = field.start;
-    let end = field.end;
-    let e = &s[start..end];
-    let row = tables::element_at(guide, c.row);
-    PlaceCodes {
-        place: c.place,
-        reference: row.reference,
-        own: element_code(e, d, guide, c.row),
-        noted: note_code(s, d.element, guide, c.notes, c.place, start < end),
-        value: field,
-    }
+    code.map_or(0, |code| code as u8)
 }
 
-// The cursor at the row below, with this place, after the field that ends at `end`.
-fn next_row(c: Cursor, place: usize, end: usize) -> Cursor
-    requires { c.row < 18446744073709551615 }
-    ensures { result ≡ record { notes = c.notes; row = c.row + 1; place = place; end = end } }
+// The codes of the next place by the element of the next row, in the next field.
+fn codes_at(s: &[u8], d: Delimiters, guide: &[[u16; 6]], c: Cursor) -> PlaceCodes
+    ensures { result ≡ codes_at d s.now guide.now c }
 {
-    let row = c.row + 1;
-    Cursor {
-        notes: c.notes,
-        row,
-        place,
-        end,
+    let value = field_after(s, d.element, c.end);
+    let present = value.start < value.end;
+    PlaceCodes {
+        place: c.place,
+        reference: tables::element_at(guide, c.row).reference,
+        own: number(element_code(&s[value.start..value.end], d, guide, c.row)),
+        noted: number(note_code(s, d.element, guide, c.notes, c.place, present)),
+        value,
     }
 }
 
 // Code 3 where an element stands beyond the rows.
-fn surplus(s: &[u8], c: Cursor) -> Found
+fn surplus(s: &[u8], c: Cursor) -> Option<Found>
     ensures { result ≡ surplus s.now c }
 {
-    if c.end < s.len() {
-        let codes = PlaceCodes {
-            place: c.place,
-            reference: 0,
-            own: ElementCode::BEYOND_TABLE,
-            noted: 0,
-            // Under this code nothing is echoed.
-            value: Span { start: 0, end: 0 },
-        };
-        let over = Cursor {
-            notes: c.notes,
-            row: c.row,
-            place: c.place,
-            end: s.len(),
-        };
-        return Found::Codes(codes, over);
+    if s.len() <= c.end {
+        return None;
     }
-    Found::Nothing
+    let codes = PlaceCodes {
+        place: c.place,
+        reference: 0,
+        own: ElementCode::BeyondTable as u8,
+        noted: 0,
+        // Under this code nothing is echoed.
+        value: Span { start: 0, end: 0 },
+    };
+    Some(Found {
+        codes,
+        next: Cursor { end: s.len(), ..c },
+    })
 }
 
 // What the check of a segment finds next.
-pub fn next_found(s: &[u8], d: Delimiters, guide: &[[u16; 6]], cursor: Cursor) -> Found
+pub fn next_found(s: &[u8], d: Delimiters, guide: &[[u16; 6]], cursor: Cursor) -> Option<Found>
     ensures { result ≡ next_found d s.now guide.now cursor }
 {
     let mut c = cursor;
-    while c.row < guide.len() && !tables::is_segment(guide, c.row) {
-        if !tables::is_element(guide, c.row) {
-            c = next_row(c, c.place, c.end);
-            continue;
+    for row in cursor.row..guide.len() {
+        if tables::is_segment(guide, row) {
+            break;
         }
-        let field = field_after(s, d.element, c.end);
-        let codes = codes_at(s, d, guide, c, field);
-        c = next_row(c, place_after(c.place), field.end);
-        if (codes.own != 0) | (codes.noted != 0) {
-            return Found::Codes(codes, c);
+        if tables::is_element(guide, row) {
+            let codes = codes_at(s, d, guide, c);
+            c.place = c.place.saturating_add(1);
+            c.end = codes.value.end;
+            c.row = row + 1;
+            if codes.is_coded() {
+                return Some(Found { codes, next: c });
+            }
+        } else {
+            c.row = row + 1;
         }
     }
     surplus(s, c)
 }
 
 // What the check of a segment by its entry finds first.
-pub fn first_found(s: &[u8], d: Delimiters, guide: &[[u16; 6]], entry: usize) -> Found
+pub fn first_found(s: &[u8], d: Delimiters, guide: &[[u16; 6]], entry: usize) -> Option<Found>
     ensures { result ≡ next_found d s.now guide.now (start d s.now guide.now entry) }
 {
     let row = tables::below(guide, entry);

@@ -2,14 +2,14 @@
 use mathlib.Core.Path.{◌≡◌, refl, sym, ap, subst, ◌∙◌}
 use mathlib.Core.Bool.{Bool, true, false, ◌&&◌, true≢false, false≢true}
 use mathlib.Core.List.{List, [], ◌∷◌, ◌++◌}
-use mathlib.Core.Option.{some}
+use Rattle.std.specs.Prelude.{Option, None, Some, is_some, unwrap_or, option_to_list}
 use Prim.Native.Nat.{ℕ, zero, suc, ◌+◌, ◌-◌, ◌<◌, ◌≤◌}
 use native.Mathlib.Nat.{add-zero, sub_self}
 use native.Mathlib.Omega.{arith}
 use borrow.Author.Tests.{ltb-true, ltb-false, lt-ltb, le-leb, lt-leb, leb-true}
 use lib.Dec.{ltb, leb}
 use lib.ListN.{length, drop, get_or, length-take}
-use Rattle.rules.specs.Base.{Bytes, ascii, same, null, all, front, last, listed}
+use Rattle.rules.specs.Base.{Bytes, ascii, same, null, all, front, last}
 use Rattle.rules.specs.Cutting.{Segment, field, is_named, pieces, split, segments}
 use Rattle.rules.specs.Groups.{Group, cut_after_ge, groups_of, is_ge}
 use Rattle.rules.specs.Refusals.{is_envelope, enveloped}
@@ -19,17 +19,11 @@ use Rattle.rules.proofs.SetLaws.{is_outer, Optional, missing, there}
 use Rattle.segments.proofs.Pieces.{WholePart, whole_empty, whole_next, pieces_at, pieces_none, segments_at, segments_none, segments_rest, segments_part}
 use Rattle.segments.proofs.Fields.{field_first, field_at}
 use Rattle.text.specs.Text.{index_of, part}
-use Rattle.envelope.specs.Places.{end_of, segment_at, until_envelope, trailer_at, start_after, body_end, group_ending, group_starting, next_group, groups_end, envelope_ending, envelope_to, envelope_from, envelope_of, trailer_in, group_at}
+use Rattle.envelope.specs.Places.{end_of, segment_at, until_envelope, trailer_at, after_trailer, start_after, body_end, group_ending, group_starting, next_group, ended_at, groups_end, envelope_ending, envelope_to, envelope_from, envelope_of, trailer_in, group_at}
 use Rattle.envelope.specs.declared.GroupAt.{GroupAt}
-use Rattle.envelope.specs.declared.NextGroup.{NextGroup}
-use Rattle.envelope.specs.declared.NextGroup.TheVariants.{Found, None}
 use Rattle.envelope.specs.declared.GroupsEnd.{GroupsEnd}
-use Rattle.envelope.specs.declared.GroupsEnd.TheVariants.{At, TooMany}
 use Rattle.envelope.specs.declared.Envelope.{Envelope}
-use Rattle.envelope.specs.declared.Enveloped.{Enveloped}
-use Rattle.envelope.specs.declared.Trailer.{Trailer}
-use Rattle.envelope.specs.declared.Enveloped.TheVariants.{Whole, Broken}
-use Rattle.envelope.proofs.Places.{part_past, part_length, named_within, until_here, until_later, trailer_there, trailer_missing, count_none}
+use Rattle.envelope.proofs.Places.{part_past, part_length, named_within, until_here, until_later, count_none}
 use Rattle.envelope.proofs.Steps.{is_gs, is_iea, groups_from, closes, iea_gs, last_append, none_closes, full_closes, closed_groups, closed_closes, open_groups, open_closes, enveloped_from, enveloped_none, last_rest}
 
 -- 1. The segments from an offset on: the first, those after it, and whether there is one.
@@ -130,34 +124,34 @@ module _ (d : Delimiters) (i : Bytes) (start : ℕ) where
   stopped = walk (pieces d.terminator (drop start i)) start refl (inside_empty d i start)
 
 -- 3. GE or nothing, and what follows.
-record Trailed (d : Delimiters) (i : Bytes) (at : ℕ) (t : Trailer) : Type 0 where
-  cut : segments d (drop at i) ≡ listed (trailer_in d i at t.end t.closed) ++ segments d (drop t.next i)
-  named : Optional is_ge (trailer_in d i at t.end t.closed)
-  onward : at ≤ t.next
+record Trailed (d : Delimiters) (i : Bytes) (at : ℕ) (ge : Option ℕ) : Type 0 where
+  cut : segments d (drop at i) ≡ option_to_list (trailer_in d i at (unwrap_or ge at) (is_some ge)) ++ segments d (drop (after_trailer at ge) i)
+  named : Optional is_ge (trailer_in d i at (unwrap_or ge at) (is_some ge))
+  onward : at ≤ after_trailer at ge
 
 trailed : (d : Delimiters) (i : Bytes) (at : ℕ) → Trailed d i at (trailer_at d i at)
-unfolding segment_at same
+unfolding trailer_at segment_at same
 trailed d i at = go (is_ge (segment_at d i at)) refl
   where
     go : (c : Bool) → is_ge (segment_at d i at) ≡ c → Trailed d i at (trailer_at d i at)
     go true g =
         let within = named_within (ascii "GE") d.element i at (end_of d i at) refl g in
-        rw (trailer_there d i at (end_of d i at) refl g)
+        rw g
         (record {
           cut = segments_from d i at within;
           named = there g;
           onward = omega arith;
         })
     go false g =
-        rw (trailer_missing d i at (end_of d i at) refl g)
+        rw g
         (record { cut = refl; named = missing; onward = omega arith })
 
 -- without GE nothing was passed
-untrailed : (d : Delimiters) (i : Bytes) (at : ℕ) → (trailer_at d i at).closed ≡ false → ((trailer_at d i at).next ≡ at) × (is_ge (segment_at d i at) ≡ false)
+untrailed : (d : Delimiters) (i : Bytes) (at : ℕ) → is_some (trailer_at d i at) ≡ false → (after_trailer at (trailer_at d i at) ≡ at) × (is_ge (segment_at d i at) ≡ false)
 unfolding trailer_at
 untrailed d i at c = go (is_ge (segment_at d i at)) refl
   where
-    go : (b : Bool) → is_ge (segment_at d i at) ≡ b → ((trailer_at d i at).next ≡ at) × (is_ge (segment_at d i at) ≡ false)
+    go : (b : Bool) → is_ge (segment_at d i at) ≡ b → (after_trailer at (trailer_at d i at) ≡ at) × (is_ge (segment_at d i at) ≡ false)
     go true q = absurd (true≢false (rw q at c))
     go false q = (rw q, q)
 
@@ -173,14 +167,14 @@ pub record GroupFound (d : Delimiters) (i : Bytes) (at : ℕ) (g : GroupAt) : Ty
   pub inside : all is_outer (group_at d i g).body ≡ true
   pub closes : Optional is_ge (group_at d i g).trailer
   pub cut : segments d (drop at i)
-      ≡ (group_at d i g).header ∷ ((group_at d i g).body ++ (listed (group_at d i g).trailer ++ segments d (drop g.next i)))
+      ≡ (group_at d i g).header ∷ ((group_at d i g).body ++ (option_to_list (group_at d i g).trailer ++ segments d (drop g.next i)))
 
 -- a trailer that is there is GE
 ge_named : (d : Delimiters) (i : Bytes) (g : GroupAt) → Optional is_ge (group_at d i g).trailer → g.closed ≡ true
     → is_ge (split d.element (part i g.body_end g.ge_end)) ≡ true
 ge_named d i g o q = named_one (rw q at o)
   where
-    named_one : {s : Segment} → Optional is_ge (some s) → is_ge s ≡ true
+    named_one : {s : Segment} → Optional is_ge (Some s) → is_ge s ≡ true
     named_one (there e) = e
 
 -- an id is no longer than its segment
@@ -189,13 +183,13 @@ id_short e s = omega (arith, ap length (field_at (field_first {e = e} {s = s}) r
 
 module _ (d : Delimiters) (i : Bytes) (at : ℕ) where
   -- what was found is the group there, and its GS stands there
-  found_by : {g : GroupAt} → next_group d i at ≡ Found g → (is_gs (segment_at d i at) ≡ true) × (g ≡ group_starting d i at)
+  found_by : {g : GroupAt} → next_group d i at ≡ Some g → (is_gs (segment_at d i at) ≡ true) × (g ≡ group_starting d i at)
   unfolding next_group
   found_by {g} p = go (is_gs (segment_at d i at)) refl
     where
       go : (b : Bool) → is_gs (segment_at d i at) ≡ b → (is_gs (segment_at d i at) ≡ true) × (g ≡ group_starting d i at)
       go true q = (q, cc (rw q at p))
-      go false q = let z = rw q at p in let z : ◌≡◌ {A = ℕ} 0 1 = cc in absurd (omega arith)
+      go false q = absurd (cc (rw q at p))
 
   module _ (g : is_gs (segment_at d i at) ≡ true) where
     -- GS has at least two bytes, and the body starts after its terminator
@@ -239,15 +233,15 @@ module _ (d : Delimiters) (i : Bytes) (at : ℕ) where
         }
 
   -- A step says what stands there. Shut out: a body that goes past a segment of the envelope, and a GE or a next place of another group.
-  pub next_found : {g : GroupAt} → next_group d i at ≡ Found g → GroupFound d i at g
+  pub next_found : {g : GroupAt} → next_group d i at ≡ Some g → GroupFound d i at g
   next_found p = let f = found_by p in rw f.1 (found f.0)
 
   -- it is the group that starts there
-  pub found_starts : {g : GroupAt} → next_group d i at ≡ Found g → group_starting d i at ≡ g
+  pub found_starts : {g : GroupAt} → next_group d i at ≡ Some g → group_starting d i at ≡ g
   found_starts p = sym (found_by p).1
 
   -- the group again, by where its body ended
-  pub group_again : {g : GroupAt} → next_group d i at ≡ Found g → group_ending d i at g.body_end ≡ g
+  pub group_again : {g : GroupAt} → next_group d i at ≡ Some g → group_ending d i at g.body_end ≡ g
   unfolding group_starting group_ending
   group_again p = rw (found_by p).1
 
@@ -257,7 +251,7 @@ module _ (d : Delimiters) (i : Bytes) (at : ℕ) where
   none_by p = go (is_gs (segment_at d i at)) refl
     where
       go : (b : Bool) → is_gs (segment_at d i at) ≡ b → is_gs (segment_at d i at) ≡ false
-      go true q = let z = rw q at p in let z : ◌≡◌ {A = ℕ} 0 1 = cc in absurd (omega arith)
+      go true q = absurd (cc (rw q at p))
       go false q = q
 
   none_at : is_gs (segment_at d i at) ≡ false → next_group d i at ≡ None
@@ -265,7 +259,7 @@ module _ (d : Delimiters) (i : Bytes) (at : ℕ) where
   none_at q = rw q
 
   -- after a group without GE comes another segment of the envelope, or none
-  open_stops : {g : GroupAt} → next_group d i at ≡ Found g → g.closed ≡ false
+  open_stops : {g : GroupAt} → next_group d i at ≡ Some g → g.closed ≡ false
       → (null (segments d (drop g.next i)) ≡ false → is_envelope (get_or (segments d (drop g.next i)) 0 []) ≡ true)
       × (is_ge (get_or (segments d (drop g.next i)) 0 []) ≡ false)
   unfolding group_starting group_ending
@@ -275,26 +269,32 @@ module _ (d : Delimiters) (i : Bytes) (at : ℕ) where
       let t = untrailed d i (body_end d i body) (sym (ap (λ (x : GroupAt). x.closed) f.1) ∙ c) in
       rw (f.1, t.0) ((stopped d i body).stops, named_at d i (body_end d i body) (ascii "GE") ∙ t.1)
 
+-- two ends of groups that are one
+ended_same : {n at m iea : ℕ} → ended_at n at ≡ ended_at m iea → (n ≡ m) × (at ≡ iea)
+ended_same {n} {at} p =
+    let part = λ (f : GroupsEnd → ℕ). ap (λ e. f (unwrap_or e (record { groups = n; iea = at }))) p in
+    (part (λ e. e.groups), part (λ e. e.iea))
+
 -- 5. The groups from a step on, one after the other; something follows the last.
-pub data Groups (d : Delimiters) (i : Bytes) : NextGroup → List Group → Type 0 where
+pub data Groups (d : Delimiters) (i : Bytes) : Option GroupAt → List Group → Type 0 where
   no_group : Groups d i None []
-  a_group : {g : GroupAt} {gs : List Group} → g.next < length i → Groups d i (next_group d i g.next) gs → Groups d i (Found g) (group_at d i g ∷ gs)
+  a_group : {g : GroupAt} {gs : List Group} → g.next < length i → Groups d i (next_group d i g.next) gs → Groups d i (Some g) (group_at d i g ∷ gs)
 
 module _ (d : Delimiters) (i : Bytes) where
   -- IEA stands where the groups end, and nothing after it
-  abbrev ended : GroupsEnd → Bool
-  ended (At n iea) = is_iea (segment_at d i iea) && leb (length i) (end_of d i iea + 1)
-  ended TooMany = false
+  abbrev ended : Option GroupsEnd → Bool
+  ended (Some e) = is_iea (segment_at d i e.iea) && leb (length i) (end_of d i e.iea + 1)
+  ended None = false
 
   -- the same over segments
-  alone_at : (n at : ℕ) → is_iea (get_or (segments d (drop at i)) 0 []) && null (drop 1 (segments d (drop at i))) ≡ ended (At n at)
+  alone_at : (n at : ℕ) → is_iea (get_or (segments d (drop at i)) 0 []) && null (drop 1 (segments d (drop at i))) ≡ ended (ended_at n at)
   alone_at n at = rw (named_at d i at (ascii "IEA"), rest_at d i at, null_at d i (end_of d i at + 1))
 
   -- one step of it, by what was found
-  module _ (at : ℕ) {g : GroupAt} (p : next_group d i at ≡ Found g) where
+  module _ (at : ℕ) {g : GroupAt} (p : next_group d i at ≡ Some g) where
     found_cut : (c : Bool) → g.closed ≡ c
         → segments d (drop at i)
-        ≡ (group_at d i g).header ∷ ((group_at d i g).body ++ (listed (trailer_in d i g.body_end g.ge_end c) ++ segments d (drop g.next i)))
+        ≡ (group_at d i g).header ∷ ((group_at d i g).body ++ (option_to_list (trailer_in d i g.body_end g.ge_end c) ++ segments d (drop g.next i)))
     found_cut c q = (next_found d i at p).cut ∙ rw q
 
     found_full : closes 0 (segments d (drop at i)) ≡ false
@@ -306,7 +306,7 @@ module _ (d : Delimiters) (i : Bytes) where
         rw (found_cut true q)
         (closed_closes (group_at d i g).header (group_at d i g).body f.named f.inside _ (ge_named d i g f.closes q) limit _)
 
-    found_open : (limit n : ℕ) → g.closed ≡ false → closes (suc limit) (segments d (drop at i)) ≡ ended (At n g.next)
+    found_open : (limit n : ℕ) → g.closed ≡ false → closes (suc limit) (segments d (drop at i)) ≡ ended (ended_at n g.next)
     found_open limit n q =
         let f = next_found d i at p in
         let stops = open_stops d i at p q in
@@ -318,18 +318,18 @@ module _ (d : Delimiters) (i : Bytes) where
   unfolding groups_end
   closes_is zero n at = go (next_group d i at) refl
     where
-      go : (w : NextGroup) → next_group d i at ≡ w → closes 0 (segments d (drop at i)) ≡ ended (groups_end 0 d i n at w)
+      go : (w : Option GroupAt) → next_group d i at ≡ w → closes 0 (segments d (drop at i)) ≡ ended (groups_end 0 d i n at w)
       go None q = none_closes 0 _ (named_at d i at (ascii "GS") ∙ none_by d i at q) ∙ alone_at n at
-      go (Found g) q = found_full at q
+      go (Some g) q = found_full at q
   closes_is (suc limit) n at = go (next_group d i at) refl (λ next. closes_is limit (n + 1) next)
     where
-      go : (w : NextGroup) → next_group d i at ≡ w
+      go : (w : Option GroupAt) → next_group d i at ≡ w
           → ((next : ℕ) → closes limit (segments d (drop next i)) ≡ ended (groups_end limit d i (n + 1) next (next_group d i next)))
           → closes (suc limit) (segments d (drop at i)) ≡ ended (groups_end (suc limit) d i n at w)
       go None q rest = none_closes (suc limit) _ (named_at d i at (ascii "GS") ∙ none_by d i at q) ∙ alone_at n at
-      go (Found g) q rest = by g.closed refl
+      go (Some g) q rest = by g.closed refl
         where
-          by : (c : Bool) → g.closed ≡ c → closes (suc limit) (segments d (drop at i)) ≡ ended (groups_end (suc limit) d i n at (Found g))
+          by : (c : Bool) → g.closed ≡ c → closes (suc limit) (segments d (drop at i)) ≡ ended (groups_end (suc limit) d i n at (Some g))
           by true k = found_closed at q limit k ∙ rest g.next ∙ rw k
           by false k = found_open at q limit (n + 1) k ∙ rw (k, count_none d i (n + 1) g.next limit)
 
@@ -360,13 +360,10 @@ module _ (d : Delimiters) (i : Bytes) where
       trailer = rw iea_alone;
     }
 
-    at_once : (n at : ℕ) {m : ℕ} → At n at ≡ At m iea → Ran n at m iea
-    at_once n at {m} e =
-        let k : n ≡ m = cc in
-        let h : at ≡ iea = cc in
-        rw (k, h) (ran_none m)
+    at_once : (n at : ℕ) {m : ℕ} → ended_at n at ≡ ended_at m iea → Ran n at m iea
+    at_once n at {m} e = let same = ended_same e in rw (same.0, same.1) (ran_none m)
 
-    ran_open : (n at : ℕ) {g : GroupAt} → next_group d i at ≡ Found g → g.closed ≡ false → g.next ≡ iea → Ran n at (n + 1) iea
+    ran_open : (n at : ℕ) {g : GroupAt} → next_group d i at ≡ Some g → g.closed ≡ false → g.next ≡ iea → Ran n at (n + 1) iea
     unfolding last
     ran_open n at {g} p q e =
         let f = next_found d i at p in
@@ -380,7 +377,7 @@ module _ (d : Delimiters) (i : Bytes) where
           trailer = ap (last []) cut ∙ last_snoc gs xs (segment_at d i iea);
         }
 
-    ran_closed : (n at : ℕ) {g : GroupAt} {m : ℕ} → next_group d i at ≡ Found g → g.closed ≡ true → Ran (n + 1) g.next m iea → Ran n at m iea
+    ran_closed : (n at : ℕ) {g : GroupAt} {m : ℕ} → next_group d i at ≡ Some g → g.closed ≡ true → Ran (n + 1) g.next m iea → Ran n at m iea
     unfolding last same
     ran_closed n at {g} {m} p q r = go (segments d (drop g.next i)) refl
       where
@@ -404,39 +401,37 @@ module _ (d : Delimiters) (i : Bytes) where
               trailer = ap (last []) cut ∙ last_append gs xs ge (z ∷ zs) ∙ ap (last []) (sym e) ∙ r.trailer;
             }
 
-    ran : (limit n at m : ℕ) → groups_end limit d i n at (next_group d i at) ≡ At m iea → Ran n at m iea
+    ran : (limit n at m : ℕ) → groups_end limit d i n at (next_group d i at) ≡ ended_at m iea → Ran n at m iea
     unfolding groups_end
     ran zero n at m e = go (next_group d i at) refl
       where
-        go : (w : NextGroup) → next_group d i at ≡ w → Ran n at m iea
+        go : (w : Option GroupAt) → next_group d i at ≡ w → Ran n at m iea
         go None q = at_once n at (rw q at e)
-        go (Found g) q = let z = rw q at e in let z : ◌≡◌ {A = ℕ} 0 1 = cc in absurd (omega arith)
+        go (Some g) q = absurd (cc (rw q at e))
     ran (suc limit) n at m e = go (next_group d i at) refl (λ next. ran limit (n + 1) next m)
       where
-        go : (w : NextGroup) → next_group d i at ≡ w
-            → ((next : ℕ) → groups_end limit d i (n + 1) next (next_group d i next) ≡ At m iea → Ran (n + 1) next m iea) → Ran n at m iea
+        go : (w : Option GroupAt) → next_group d i at ≡ w
+            → ((next : ℕ) → groups_end limit d i (n + 1) next (next_group d i next) ≡ ended_at m iea → Ran (n + 1) next m iea) → Ran n at m iea
         go None q rest = at_once n at (rw q at e)
-        go (Found g) q rest = by g.closed refl
+        go (Some g) q rest = by g.closed refl
           where
             by : (c : Bool) → g.closed ≡ c → Ran n at m iea
             by true k = ran_closed n at q k (rest g.next (rw (q, k) at e))
             by false k =
-                let last_one : At (n + 1) g.next ≡ At m iea = sym (count_none d i (n + 1) g.next limit) ∙ rw (q, k) at e in
-                let count : n + 1 ≡ m = cc in
-                let end : g.next ≡ iea = cc in
-                rw (← count) (ran_open n at q k end)
+                let same = ended_same (sym (count_none d i (n + 1) g.next limit) ∙ rw (q, k) at e) in
+                rw (← same.0) (ran_open n at q k same.1)
 
 -- 6. What an envelope is of its interchange: check 7 passes, and the steps from its first group on give the groups.
 pub record EnvelopeIs (limit : ℕ) (d : Delimiters) (i : Bytes) (e : Envelope) : Type 0 where
   pub envelope : enveloped limit (segments d i) ≡ true
-  pub starts : next_group d i (end_of d i 0 + 1) ≡ Found e.first
-  pub groups : Groups d i (Found e.first) (groups_of (segments d i))
+  pub starts : next_group d i (end_of d i 0 + 1) ≡ Some e.first
+  pub groups : Groups d i (Some e.first) (groups_of (segments d i))
   pub counted : e.groups ≡ length (groups_of (segments d i))
   pub trailer : last [] (segments d i) ≡ split d.element (part i e.iea e.iea_end)
 
-abbrev Is : ℕ → Delimiters → Bytes → Enveloped → Type 0
-Is limit d i (Whole e) = EnvelopeIs limit d i e
-Is limit d i Broken = enveloped limit (segments d i) ≡ false
+abbrev Is : ℕ → Delimiters → Bytes → Option Envelope → Type 0
+Is limit d i (Some e) = EnvelopeIs limit d i e
+Is limit d i None = enveloped limit (segments d i) ≡ false
 
 module _ (limit : ℕ) (d : Delimiters) (i : Bytes) where
   abbrev start : ℕ
@@ -449,14 +444,14 @@ module _ (limit : ℕ) (d : Delimiters) (i : Bytes) where
   second : is_gs (get_or (drop 1 (segments d i)) 0 []) ≡ is_gs (segment_at d i start)
   second = rw rest_is (named_at d i start (ascii "GS"))
 
-  module _ {first : GroupAt} (p : next_group d i start ≡ Found first) where
+  module _ {first : GroupAt} (p : next_group d i start ≡ Some first) where
     gs_second : is_gs (get_or (drop 1 (segments d i)) 0 []) ≡ true
     gs_second = second ∙ (found_by d i start p).0
 
-    enveloped_is : {r : GroupsEnd} → groups_end limit d i 0 start (next_group d i start) ≡ r → enveloped limit (segments d i) ≡ ended d i r
+    enveloped_is : {r : Option GroupsEnd} → groups_end limit d i 0 start (next_group d i start) ≡ r → enveloped limit (segments d i) ≡ ended d i r
     enveloped_is q = enveloped_from (segments d i) limit gs_second ∙ rw rest_is (closes_is d i limit 0 start) ∙ ap (ended d i) q
 
-    whole : (n iea : ℕ) → groups_end limit d i 0 start (next_group d i start) ≡ At n iea
+    whole : (n iea : ℕ) → groups_end limit d i 0 start (next_group d i start) ≡ ended_at n iea
         → is_iea (segment_at d i iea) ≡ true → leb (length i) (end_of d i iea + 1) ≡ true
         → EnvelopeIs limit d i (record { first = first; groups = n; iea = iea; iea_end = end_of d i iea })
     unfolding groups_of segment_at
@@ -470,7 +465,7 @@ module _ (limit : ℕ) (d : Delimiters) (i : Bytes) where
           trailer = last_rest (segments d i) gs_second ∙ rw rest_is r.trailer;
         }
 
-    ending : (n iea : ℕ) → groups_end limit d i 0 start (next_group d i start) ≡ At n iea → Is limit d i (envelope_ending d i first n iea)
+    ending : (n iea : ℕ) → groups_end limit d i 0 start (next_group d i start) ≡ ended_at n iea → Is limit d i (envelope_ending d i first n iea)
     unfolding envelope_ending
     ending n iea q = go (is_iea (segment_at d i iea)) (leb (length i) (end_of d i iea + 1)) refl refl
       where
@@ -479,13 +474,13 @@ module _ (limit : ℕ) (d : Delimiters) (i : Bytes) where
         go true false named l = rw (named, l) (enveloped_is q ∙ rw (named, l))
         go false b named l = rw named (enveloped_is q ∙ rw named)
 
-    due : (r : GroupsEnd) → groups_end limit d i 0 start (next_group d i start) ≡ r → Is limit d i (envelope_to d i first r)
-    due (At n iea) q = ending n iea q
-    due TooMany q = enveloped_is q
+    due : (r : Option GroupsEnd) → groups_end limit d i 0 start (next_group d i start) ≡ r → Is limit d i (envelope_to d i first r)
+    due (Some e) q = ending e.groups e.iea q
+    due None q = enveloped_is q
 
-  from : (w : NextGroup) → next_group d i start ≡ w → Is limit d i (envelope_from limit d i w)
+  from : (w : Option GroupAt) → next_group d i start ≡ w → Is limit d i (envelope_from limit d i w)
   from None q = enveloped_none (segments d i) limit (second ∙ none_by d i start q)
-  from (Found first) q = due q (groups_end limit d i 0 first.gs (Found first)) (rw (q, (next_found d i start q).starts))
+  from (Some first) q = due q (groups_end limit d i 0 first.gs (Some first)) (rw (q, (next_found d i start q).starts))
 
   envelope_is : Is limit d i (envelope_of limit d i)
   unfolding envelope_of
@@ -493,9 +488,9 @@ module _ (limit : ℕ) (d : Delimiters) (i : Bytes) where
 
   -- A whole envelope has the groups of the interchange, from its first on, their number and IEA. Shut out: a walk that loses a group,
   -- takes another first one, or counts wrong.
-  pub whole_is : {e : Envelope} → envelope_of limit d i ≡ Whole e → EnvelopeIs limit d i e
+  pub whole_is : {e : Envelope} → envelope_of limit d i ≡ Some e → EnvelopeIs limit d i e
   whole_is p = subst (Is limit d i) p envelope_is
 
   -- A broken one is refused with 7. Shut out: a walk that stops at a sound group, and a limit that is one too low.
-  pub broken_is : envelope_of limit d i ≡ Broken → enveloped limit (segments d i) ≡ false
+  pub broken_is : envelope_of limit d i ≡ None → enveloped limit (segments d i) ≡ false
   broken_is p = subst (Is limit d i) p envelope_is

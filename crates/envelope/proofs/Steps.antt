@@ -1,9 +1,8 @@
 -- The envelope over segments alone: what check 7 asks of the segments from a place on where a group is due, group by group.
-use Rattle.std.specs.Prelude.{if◌then◌else◌}
+use Rattle.std.specs.Prelude.{if◌then◌else◌, None, Some}
 use mathlib.Core.Path.{◌≡◌, refl, sym, ap, ◌∙◌}
-use mathlib.Core.Bool.{Bool, true, false, ◌&&◌, not, false≢true}
+use mathlib.Core.Bool.{Bool, true, false, ◌&&◌, not, false≢true, and-false, and-true}
 use mathlib.Core.List.{List, [], ◌∷◌, ◌++◌, map, append-nil}
-use mathlib.Core.Option.{none, some}
 use Prim.Native.Nat.{ℕ, zero, suc}
 use borrow.Author.Tests.{not-true}
 use lib.Dec.{leb, leb-zero, leb-suc-zero, leb-suc-suc}
@@ -15,7 +14,6 @@ use Rattle.rules.specs.Refusals.{is_envelope, is_whole_group, enveloped}
 use Rattle.rules.proofs.Logic.{same→eq, all_head, all_tail, all_cons, all_weaken, front_snoc, last_snoc, last_all}
 use Rattle.rules.proofs.SetLaws.{is_outer}
 use Rattle.rules.proofs.GroupLaws.{is_open, group_from, outer_other, outer_open, cut_closed, cut_open, group_closed, group_open}
-use Rattle.text.proofs.Loops.{and_false, and_true}
 
 abbrev pub is_gs : Segment → Bool
 is_gs = is_named (ascii "GS")
@@ -65,7 +63,7 @@ last_append d (x ∷ xs) y ys = last_append x xs y ys
 all_broken : {A : Type 0} (p : A → Bool) (xs : List A) (y : A) (ys : List A) → p y ≡ false → all p (xs ++ y ∷ ys) ≡ false
 unfolding all
 all_broken p [] y ys e = rw e
-all_broken p (x ∷ xs) y ys e = rw (all_broken p xs y ys e, and_false)
+all_broken p (x ∷ xs) y ys e = rw (all_broken p xs y ys e, and-false)
 
 -- 2. The first piece starts with the first segment, and holds those before its first GE.
 data FirstPiece (xs : List Segment) (y : Segment) : List (List Segment) → Type 0 where
@@ -102,9 +100,9 @@ none_whole y g (piece p ps) = rw (header_of y p, g)
 pub none_closes : (limit : ℕ) (ss : List Segment) → is_gs (get_or ss 0 []) ≡ false → closes limit ss ≡ is_iea (get_or ss 0 []) && null (drop 1 ss)
 unfolding last front same cut_after_ge all
 none_closes limit [] g = refl
-none_closes limit (y ∷ []) g = rw (leb-zero limit, and_true)
+none_closes limit (y ∷ []) g = rw (leb-zero limit, and-true)
 none_closes limit (y ∷ (z ∷ zs)) g =
-    rw (none_whole y g (first_piece [] y (front (z ∷ zs)) refl), and_false) (sym (and_false (is_iea y)))
+    rw (none_whole y g (first_piece [] y (front (z ∷ zs)) refl), and-false) (sym (and-false (is_iea y)))
 
 -- 4. A group starts here.
 full_by : (gs : Segment) {r : List (List Segment)} → FirstPiece [] gs r → leb (length (map group_from r)) zero ≡ false
@@ -114,7 +112,7 @@ full_by gs (piece p ps) = leb-suc-zero (length (map group_from ps))
 pub full_closes : (gs : Segment) (ss : List Segment) → is_gs gs ≡ true → closes 0 (gs ∷ ss) ≡ false
 unfolding last front all
 full_closes gs [] g = rw (gs_iea gs g)
-full_closes gs (z ∷ zs) g = rw (full_by gs (first_piece [] gs (front (z ∷ zs)) refl), and_false)
+full_closes gs (z ∷ zs) g = rw (full_by gs (first_piece [] gs (front (z ∷ zs)) refl), and-false)
 
 module _ (gs : Segment) (xs : List Segment) (g : is_gs gs ≡ true) (o : all is_outer xs ≡ true) where
   opens : all is_open (gs ∷ xs) ≡ true
@@ -123,7 +121,7 @@ module _ (gs : Segment) (xs : List Segment) (g : is_gs gs ≡ true) (o : all is_
   -- with its GE: it is one group, and those after it decide
   module _ (ge : Segment) (e : is_ge ge ≡ true) where
     pub closed_groups : (z : Segment) (zs : List Segment)
-        → groups_from (gs ∷ (xs ++ ge ∷ (z ∷ zs))) ≡ record { header = gs; body = xs; trailer = some ge } ∷ groups_from (z ∷ zs)
+        → groups_from (gs ∷ (xs ++ ge ∷ (z ∷ zs))) ≡ record { header = gs; body = xs; trailer = Some ge } ∷ groups_from (z ∷ zs)
     unfolding front
     closed_groups z zs =
         rw (front_append (gs ∷ xs) ge (z ∷ zs), cut_closed (gs ∷ xs) ge (front (z ∷ zs)) opens e, group_closed gs xs ge e)
@@ -150,7 +148,7 @@ module _ (gs : Segment) (xs : List Segment) (g : is_gs gs ≡ true) (o : all is_
     unfolding all
     open_whole (piece p ps) = rw (header_of gs (xs ++ y ∷ p), g, kept p)
 
-  pub open_groups : (y : Segment) → groups_from (gs ∷ (xs ++ y ∷ [])) ≡ record { header = gs; body = xs; trailer = none } ∷ []
+  pub open_groups : (y : Segment) → groups_from (gs ∷ (xs ++ y ∷ [])) ≡ record { header = gs; body = xs; trailer = None } ∷ []
   open_groups y =
       rw (front_snoc (gs ∷ xs) y, cut_open gs xs opens, group_open gs xs (all_weaken is_outer is_open outer_open xs o))
 
@@ -160,9 +158,9 @@ module _ (gs : Segment) (xs : List Segment) (g : is_gs gs ≡ true) (o : all is_
   open_closes limit [] env e =
       rw (append-nil xs, not-true (is_iea (last gs xs)) (last_all (λ s. not (is_iea s)) gs xs (rw (gs_iea gs g)) (all_weaken is_outer (λ s. not (is_iea s)) outer_iea xs o)))
   open_closes limit (y ∷ []) env e =
-      rw (last_snoc gs xs y, open_groups y, leb-suc-suc 0 limit, leb-zero limit, g, o, and_true)
+      rw (last_snoc gs xs y, open_groups y, leb-suc-suc 0 limit, leb-zero limit, g, o, and-true)
   open_closes limit (y ∷ (z ∷ zs)) env e =
-      rw (front_append (gs ∷ xs) y (z ∷ zs), open_whole y (env refl) e (first_piece (gs ∷ xs) y (front (z ∷ zs)) opens), and_false) (sym (and_false (is_iea y)))
+      rw (front_append (gs ∷ xs) y (z ∷ zs), open_whole y (env refl) e (first_piece (gs ∷ xs) y (front (z ∷ zs)) opens), and-false) (sym (and-false (is_iea y)))
 
 -- 5. Check 7 of an interchange is that of its segments after the first, where the first group is due.
 module _ (ss : List Segment) where
@@ -185,9 +183,9 @@ module _ (ss : List Segment) where
     where
       go : (ss : List Segment) → is_gs (get_or (drop 1 ss) 0 []) ≡ false → enveloped limit ss ≡ false
       go [] g = refl
-      go (x ∷ []) g = rw and_false
-      go (x ∷ (y ∷ [])) g = rw and_false
-      go (x ∷ (y ∷ (z ∷ zs))) g = rw (none_whole y g (first_piece [] y (front (z ∷ zs)) refl), and_false)
+      go (x ∷ []) g = rw and-false
+      go (x ∷ (y ∷ [])) g = rw and-false
+      go (x ∷ (y ∷ (z ∷ zs))) g = rw (none_whole y g (first_piece [] y (front (z ∷ zs)) refl), and-false)
 
   pub last_rest : is_gs (get_or (drop 1 ss) 0 []) ≡ true → last [] ss ≡ last [] (drop 1 ss)
   unfolding last same

@@ -1,12 +1,12 @@
 #![tactic(auto)]
-// The envelope of an interchange: where its groups and IEA lie (refusal 7), and whether IEA is right (refusal 8).
-ghost use Rattle.std.specs.Prelude.{◌≡◌, ◌+◌, drop};
+// The envelope of an interchange: where its groups and IEA lie (refusal 7), and whether IEA is right (refusal 8). The bytes and d are
+// no struct, here and in the crates above: d is read from the bytes, and parts are cut from them and read by the same d.
+ghost use Rattle.std.specs.Prelude.{◌≡◌, ◌+◌, drop, Some};
 ghost use Rattle.rules.specs.Cutting.{field, is_named, pieces, split};
 ghost use Rattle.rules.specs.Refusals as law;
 ghost use Rattle.text.specs.Text.{part};
 ghost use Rattle.envelope.specs.Places.{end_of, is_envelope_name, until_envelope, trailer_at, start_after, group_ending, next_group, group_after, groups_end, envelope_ending, envelope_of};
-ghost use Rattle.envelope.specs.declared.NextGroup.TheVariants.{Found};
-ghost use Rattle.envelope.specs.Faults.{trailer_fault};
+ghost use Rattle.envelope.specs.Faults.{trailer_check};
 
 use rules::{Delimiters, GE, GS, IEA, ISA};
 
@@ -23,15 +23,9 @@ pub struct GroupAt {
     pub body: usize,
     pub body_end: usize,
     pub ge_end: usize,
+    // There is a GE. `ge_end` is no `Option` in its place: the walk asks for this flag alone, and the one reader of GE asks for both by a `then_some`.
     pub closed: bool,
     pub next: usize,
-}
-
-// What stands where a group is due.
-#[derive(Clone, Copy)]
-pub enum NextGroup {
-    Found(GroupAt),
-    None,
 }
 
 // The place of an interchange's first group, the number of its groups, and the place of its IEA.
@@ -43,70 +37,46 @@ pub struct Envelope {
     pub iea_end: usize,
 }
 
-// An interchange has its envelope, or refusal 7 is due.
-#[derive(Clone, Copy)]
-pub enum Enveloped {
-    Whole(Envelope),
-    Broken,
-}
-
 // What is wrong with IEA: the first that is.
-#[derive(Clone, Copy)]
+#[derive(Clone, Copy, PartialEq, Eq)]
 pub enum TrailerFault {
-    None,
     NotTwoElements,
     OtherControl,
     OtherCount,
 }
 
-// What stands where the body ends: GE up to `end`, or nothing. `next` is where the next group, or IEA, is due.
+// Where the groups end: their number, and where IEA is due.
 #[derive(Clone, Copy)]
-struct Trailer {
-    end: usize,
-    closed: bool,
-    next: usize,
-}
-
-// The groups end: so many, and IEA is due there. Or there are more than may be.
-#[derive(Clone, Copy)]
-enum GroupsEnd {
-    At(u64, usize),
-    TooMany,
+struct GroupsEnd {
+    groups: u64,
+    iea: usize,
 }
 
 // The segment is ISA, GS, GE or IEA.
 pub fn is_of_envelope(s: &[u8], e: u8) -> bool
     ensures { result ≡ is_envelope_name (field (split e s.now) 0) }
 {
-    if segments::is_named(s, e, &ISA) {
-        return true;
-    }
-    if segments::is_named(s, e, &GS) {
-        return true;
-    }
-    if segments::is_named(s, e, &GE) {
-        return true;
-    }
-    segments::is_named(s, e, &IEA)
+    segments::is_named(s, e, &ISA)
+        || segments::is_named(s, e, &GS)
+        || segments::is_named(s, e, &GE)
+        || segments::is_named(s, e, &IEA)
 }
 
 // The segment ends the body of a group: the same test, where most segments are told apart by their first byte.
 fn ends_body(s: &[u8], e: u8) -> bool
     ensures { result ≡ is_envelope_name (field (split e s.now) 0) }
 {
-    if s.len() == 0 {
-        return false;
+    match s.first() {
+        Some(&b) => (b == ISA[0] || b == GS[0]) && is_of_envelope(s, e),
+        None => false,
     }
-    if (s[0] != ISA[0]) & (s[0] != GS[0]) {
-        return false;
-    }
-    is_of_envelope(s, e)
 }
 
 // Where the first segment of the envelope from `from` on starts; past the end where there is none.
 fn envelope_from(i: &[u8], from: usize, d: Delimiters) -> usize
     ensures { result ≡ from + until_envelope d.element (pieces d.terminator (drop from i.now)) }
 {
+    // A cursor: where the next segment starts is known when this one is read.
     let mut at = from;
     while at < i.len() {
         let end = text::find(i, at, d.terminator);
@@ -125,23 +95,12 @@ fn is_named_at(i: &[u8], at: usize, end: usize, d: Delimiters, name: &[u8]) -> b
     segments::is_named(text::part(i, at, end), d.element, name)
 }
 
-// GE, where it stands at `at`.
-fn trailer_at(i: &[u8], at: usize, d: Delimiters) -> Trailer
+// Where GE ends, if it stands at `at`.
+fn trailer_at(i: &[u8], at: usize, d: Delimiters) -> Option<usize>
     ensures { result ≡ trailer_at d i.now at }
 {
     let end = text::find(i, at, d.terminator);
-    if is_named_at(i, at, end, d, &GE) {
-        return Trailer {
-            end,
-            closed: true,
-            next: end + 1,
-        };
-    }
-    Trailer {
-        end: at,
-        closed: false,
-        next: at,
-    }
+    is_named_at(i, at, end, d, &GE).then_some(end)
 }
 
 // Where the segment after the one from `at` to `end` starts; `at` where that is past the end.
@@ -149,10 +108,7 @@ fn start_after(i: &[u8], at: usize, end: usize, d: Delimiters) -> usize
     requires { end ≡ end_of d i.now at }
     ensures { result ≡ start_after d i.now at }
 {
-    if at < i.len() {
-        return end + 1;
-    }
-    at
+    if at < i.len() { end + 1 } else { at }
 }
 
 // The group whose GS starts at `at` and whose body ends at `body_end`. The body is not searched.
@@ -161,76 +117,77 @@ pub fn group_ending(i: &[u8], d: Delimiters, at: usize, body_end: usize) -> Grou
 {
     let gs_end = text::find(i, at, d.terminator);
     let body = start_after(i, at, gs_end, d);
-    let trailer = trailer_at(i, body_end, d);
+    let ge = trailer_at(i, body_end, d);
     GroupAt {
         gs: at,
         gs_end,
         body,
         body_end,
-        ge_end: trailer.end,
-        closed: trailer.closed,
-        next: trailer.next,
+        ge_end: ge.unwrap_or(body_end),
+        closed: ge.is_some(),
+        next: match ge {
+            Some(end) => end + 1,
+            None => body_end,
+        },
     }
 }
 
 // The group that starts at `at`: GS, the body up to the first segment of the envelope, and GE or nothing.
-pub fn next_group(i: &[u8], d: Delimiters, at: usize) -> NextGroup
+pub fn next_group(i: &[u8], d: Delimiters, at: usize) -> Option<GroupAt>
     ensures { result ≡ next_group d i.now at }
 {
     let gs_end = text::find(i, at, d.terminator);
     if !is_named_at(i, at, gs_end, d, &GS) {
-        return NextGroup::None;
+        return None;
     }
     let body_end = envelope_from(i, gs_end + 1, d);
-    NextGroup::Found(group_ending(i, d, at, body_end))
+    Some(group_ending(i, d, at, body_end))
 }
 
 // The group after another. No group follows one without GE.
-fn group_after(i: &[u8], d: Delimiters, group: GroupAt) -> NextGroup
+fn group_after(i: &[u8], d: Delimiters, group: GroupAt) -> Option<GroupAt>
     ensures { result ≡ group_after d i.now group }
 {
     if group.closed {
-        return next_group(i, d, group.next);
+        next_group(i, d, group.next)
+    } else {
+        None
     }
-    NextGroup::None
 }
 
 // Where the groups from the first on end, if they are at most `limit`.
-fn groups_end(i: &[u8], d: Delimiters, first: GroupAt, limit: u64) -> GroupsEnd
-    ensures { result ≡ groups_end limit d i.now 0 first.gs (Found first) }
+fn groups_end(i: &[u8], d: Delimiters, first: GroupAt, limit: u64) -> Option<GroupsEnd>
+    ensures { result ≡ groups_end limit d i.now 0 first.gs (Some first) }
 {
     let mut groups = 0;
-    let mut at = first.gs;
-    let mut step = NextGroup::Found(first);
-    loop {
-        match step {
-            NextGroup::Found(group) => {
-                if groups == limit {
-                    return GroupsEnd::TooMany;
-                }
-                groups += 1;
-                at = group.next;
-                step = group_after(i, d, group);
-            }
-            NextGroup::None => {
-                return GroupsEnd::At(groups, at);
-            }
+    let mut iea = first.gs;
+    let mut next = Some(first);
+    while let Some(group) = next {
+        if groups == limit {
+            return None;
         }
+        groups += 1;
+        iea = group.next;
+        next = group_after(i, d, group);
     }
+    Some(GroupsEnd { groups, iea })
 }
 
 // The envelope with these groups, where IEA stands at `iea` and nothing follows it.
-fn envelope_ending(i: &[u8], d: Delimiters, first: GroupAt, groups: u64, iea: usize) -> Enveloped
+fn envelope_ending(
+    i: &[u8],
+    d: Delimiters,
+    first: GroupAt,
+    groups: u64,
+    iea: usize,
+) -> Option<Envelope>
     ensures { result ≡ envelope_ending d i.now first groups iea }
 {
     let iea_end = text::find(i, iea, d.terminator);
-    if !is_named_at(i, iea, iea_end, d, &IEA) {
-        return Enveloped::Broken;
+    if !is_named_at(i, iea, iea_end, d, &IEA) || iea_end + 1 < i.len() {
+        return None;
     }
-    if iea_end + 1 < i.len() {
-        return Enveloped::Broken;
-    }
-    Enveloped::Whole(Envelope {
+    Some(Envelope {
         first,
         groups,
         iea,
@@ -239,17 +196,13 @@ fn envelope_ending(i: &[u8], d: Delimiters, first: GroupAt, groups: u64, iea: us
 }
 
 // The places of the parts: 1 to `limit` groups from the second segment on, one after the other, and IEA last.
-pub fn envelope_of(i: &[u8], d: Delimiters, limit: u64) -> Enveloped
+pub fn envelope_of(i: &[u8], d: Delimiters, limit: u64) -> Option<Envelope>
     ensures { result ≡ envelope_of limit d i.now }
 {
     let start = text::find(i, 0, d.terminator) + 1;
-    match next_group(i, d, start) {
-        NextGroup::Found(first) => match groups_end(i, d, first, limit) {
-            GroupsEnd::At(groups, iea) => envelope_ending(i, d, first, groups, iea),
-            GroupsEnd::TooMany => Enveloped::Broken,
-        },
-        NextGroup::None => Enveloped::Broken,
-    }
+    let first = next_group(i, d, start)?;
+    let GroupsEnd { groups, iea } = groups_end(i, d, first, limit)?;
+    envelope_ending(i, d, first, groups, iea)
 }
 
 // IEA has exactly two elements.
@@ -274,17 +227,22 @@ fn counts_groups(groups: u64, iea: &[u8], d: Delimiters) -> bool
 }
 
 // Refusal 8, by the bytes of IEA, the number of groups and ISA13.
-pub fn trailer_fault(iea: &[u8], groups: u64, isa13: &[u8], d: Delimiters) -> TrailerFault
-    ensures { result ≡ trailer_fault (split d.element iea.now) groups isa13.now }
+pub fn check_trailer(
+    iea: &[u8],
+    groups: u64,
+    isa13: &[u8],
+    d: Delimiters,
+) -> Result<(), TrailerFault>
+    ensures { result ≡ trailer_check (split d.element iea.now) groups isa13.now }
 {
     if !has_two(iea, d) {
-        return TrailerFault::NotTwoElements;
+        return Err(TrailerFault::NotTwoElements);
     }
     if !closes(iea, isa13, d) {
-        return TrailerFault::OtherControl;
+        return Err(TrailerFault::OtherControl);
     }
     if !counts_groups(groups, iea, d) {
-        return TrailerFault::OtherCount;
+        return Err(TrailerFault::OtherCount);
     }
-    TrailerFault::None
+    Ok(())
 }

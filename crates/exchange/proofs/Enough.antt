@@ -1,11 +1,10 @@
 -- The first bytes of an input decide what is printed: a line that calls has at most 23, its LF is one, and an interchange of more than 65,536 is
 -- refused whatever it holds.
-use Rattle.std.specs.Prelude.{if◌then◌else◌}
+use Rattle.std.specs.Prelude.{if◌then◌else◌, Option, None, Some, Err}
 use Prim.Native.Nat.{ℕ, zero, suc, ◌+◌, ◌≤◌, ◌<◌}
 use mathlib.Core.Path.{◌≡◌, refl, sym, ◌∙◌}
 use mathlib.Core.Bool.{Bool, true, false, not}
 use mathlib.Core.List.{List, [], ◌∷◌}
-use mathlib.Core.Option.{Option, none, some}
 use native.Mathlib.Omega.{arith}
 use borrow.Author.Tests.{leb-true, leb-false, le-leb, lt-leb}
 use lib.Dec.{leb, eqb}
@@ -16,7 +15,7 @@ use Rattle.rules.specs.Answers.{Replies, answer, fitting}
 use Rattle.rules.specs.Refusals.{good_call, call_rules, head_rules, refusal_rules, refusal}
 use Rattle.rules.specs.InterchangeAcknowledgment.{interchange_rules, interchange_refusal}
 use Rattle.rules.specs.Program.{Input, behind_byte, parted, is_call, refused_text, printed_as, printed_reply, printed_call, printed_for, printed}
-use Rattle.rules.specs.declared.Answer.TheVariants.{Refused}
+use Rattle.rules.specs.Refused.{refused}
 use Rattle.rules.specs.declared.Call.{Call}
 use Rattle.exchange.specs.Replies.{replies_of}
 use Rattle.exchange.specs.Deciding.{deciding}
@@ -43,11 +42,11 @@ module _ (asked : Acknowledgment) (room : ℕ) (call : Call) where
   told i = printed_reply (replies_of asked i call) room
 
   too_long : (i : Bytes) → 65536 < length i → told i ≡ refused_text (if good_call call then 2 else 1)
-  unfolding answer
+  unfolding answer refused
   too_long i h = rw (refusal_long asked i call h) (go (replies_of asked i call).response (good_call call))
     where
       go : (r : Bytes) (good : Bool)
-          → printed_as (let n = if good then 2 else 1 in if eqb n 0 then fitting r room else Refused n) r ≡ refused_text (if good then 2 else 1)
+          → printed_as (let n = if good then 2 else 1 in if eqb n 0 then fitting r room else Err (refused n)) r ≡ refused_text (if good then 2 else 1)
       go r true = refl
       go r false = refl
 
@@ -64,16 +63,16 @@ module _ (asked : Acknowledgment) (room : ℕ) (call : Call) where
 -- 2. The input.
 -- the first k bytes of an input: no line is in the input, or only a part of its line is read, or its line and m bytes of the interchange
 first_bytes : (k : ℕ) (s : Bytes) (P : Option Input → Option Input → Type 0)
-    → P none none
-    → ((i : Input) → k ≤ length i.line → P none (some i))
-    → ((i : Input) (m : ℕ) → k ≡ length i.line + m + 1 → P (some (record { line = i.line; interchange = take m i.interchange })) (some i))
+    → P None None
+    → ((i : Input) → k ≤ length i.line → P None (Some i))
+    → ((i : Input) (m : ℕ) → k ≡ length i.line + m + 1 → P (Some (record { line = i.line; interchange = take m i.interchange })) (Some i))
     → P (parted (take k s)) (parted s)
 unfolding parted
 first_bytes zero s P neither part whole = go (parted s)
   where
-    go : (o : Option Input) → P none o
-    go none = neither
-    go (some i) = part i (omega arith)
+    go : (o : Option Input) → P None o
+    go None = neither
+    go (Some i) = part i (omega arith)
 first_bytes (suc k) [] P neither part whole = neither
 first_bytes (suc k) (b ∷ bs) P neither part whole =
     go (eqb b 10)
@@ -82,8 +81,8 @@ first_bytes (suc k) (b ∷ bs) P neither part whole =
     (λ i m e. whole (record { line = b ∷ i.line; interchange = i.interchange }) m (omega arith)))
   where
     go : (q : Bool) → P (behind_byte b (parted (take k bs))) (behind_byte b (parted bs))
-        → P (if q then some (record { line = []; interchange = take k bs }) else behind_byte b (parted (take k bs)))
-        (if q then some (record { line = []; interchange = bs }) else behind_byte b (parted bs))
+        → P (if q then Some (record { line = []; interchange = take k bs }) else behind_byte b (parted (take k bs)))
+        (if q then Some (record { line = []; interchange = bs }) else behind_byte b (parted bs))
     go true later = whole (record { line = []; interchange = bs }) k (omega arith)
     go false later = later
 

@@ -17,28 +17,25 @@ const CONTROL: usize = 14;
 
 // What the first line says: the caller's numbers, and where the interchange starts.
 #[derive(Clone, Copy)]
-pub enum FirstLine {
-    Numbers(Call, usize),
-    Bad,
+pub struct FirstLine {
+    pub call: Call,
+    pub interchange: usize,
 }
 
-// The call that an input makes, by its first line; bad where that has no LF.
-pub(crate) fn call_of(input: &[u8]) -> FirstLine
+// The call that an input makes, by its first line; none where that has no LF.
+pub(crate) fn call_of(input: &[u8]) -> Option<FirstLine>
     ensures { result ≡ line_in input.now }
 {
-    let end = text::find(input, 0, b'\n');
-    if input.len() <= end {
-        return FirstLine::Bad;
-    }
+    let end = input.iter().position(|&b| b == b'\n')?;
     call_on(&input[..end])
 }
 
 // The call on a line that an LF ends; the interchange starts after that.
-fn call_on(line: &[u8]) -> FirstLine
+fn call_on(line: &[u8]) -> Option<FirstLine>
     ensures { result ≡ line_on line.now }
 {
     if !is_call(line) {
-        return FirstLine::Bad;
+        return None;
     }
     let date = value(&line[..DATE_END]) as u32;
     let time = value(&line[TIME..TIME_END]) as u32;
@@ -48,27 +45,18 @@ fn call_on(line: &[u8]) -> FirstLine
         time,
         control,
     };
-    FirstLine::Numbers(call, line.len() + 1)
+    let interchange = line.len() + 1;
+    Some(FirstLine { call, interchange })
 }
 
 // 8, 4 and 1 to 9 digits with one space between.
 fn is_call(line: &[u8]) -> bool
     ensures { result ≡ is_call line.now }
 {
-    if line.len() <= CONTROL {
-        return false;
-    }
-    if !is_digits(&line[..DATE_END], 8, 8) {
-        return false;
-    }
-    if line[DATE_END] != b' ' {
-        return false;
-    }
-    if !is_digits(&line[TIME..TIME_END], 4, 4) {
-        return false;
-    }
-    if line[TIME_END] != b' ' {
-        return false;
-    }
-    is_digits(&line[CONTROL..], 1, 9)
+    CONTROL < line.len()
+        && is_digits(&line[..DATE_END], 8, 8)
+        && line[DATE_END] == b' '
+        && is_digits(&line[TIME..TIME_END], 4, 4)
+        && line[TIME_END] == b' '
+        && is_digits(&line[CONTROL..], 1, 9)
 }

@@ -8,9 +8,10 @@ ghost use Rattle.rules.specs.Program.{printed};
 ghost use Rattle.writing.specs.Over.{over};
 ghost use Rattle.exchange.specs.Replies.{replies_of};
 
-use first_line::FirstLine;
+use rules::Refusal;
 
-// Which acknowledgment is asked for: the 997, or the interchange with TA1.
+// Which acknowledgment is asked for: the 997, or the interchange with TA1. An enum and no closure, which would need a `requires` on `exchange`:
+// the contracts name what each of the two says, by `replies_of`.
 #[derive(Clone, Copy)]
 pub enum Acknowledgment {
     Functional,
@@ -22,7 +23,9 @@ pub fn exchange(asked: Acknowledgment, input: &[u8], output: &mut [u8]) -> usize
     ensures { (result ≡ length (printed (replies_of asked) input.now (length output.old))) × (output.new ≡ over (printed (replies_of asked) input.now (length output.old)) output.old) }
 {
     match first_line::call_of(input) {
-        FirstLine::Numbers(call, at) => printing::print_answer(output, asked, &input[at..], call),
-        FirstLine::Bad => printing::put_refused(output, 1),
+        Some(line) => {
+            printing::print_answer(output, asked, &input[line.interchange..], line.call)
+        }
+        None => printing::put_refused(output, Refusal::BadCall),
     }
 }

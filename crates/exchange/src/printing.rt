@@ -1,20 +1,22 @@
 // What is printed: the response, or the text of a refusal.
 ghost use Rattle.std.specs.Prelude.{length};
 ghost use Rattle.rules.specs.Answers.{Allowed};
+ghost use Rattle.rules.specs.Refused.{number_of};
 ghost use Rattle.rules.specs.Program.{refused_text, printed_reply};
 ghost use Rattle.writing.specs.Over.{Wrote};
 ghost use Rattle.exchange.specs.Replies.{replies_of};
 
 use super::Acknowledgment;
-use rules::{Answer, Call};
+use rules::{Answer, Call, Refusal};
+use writing::{Number, add};
 
 // `refused`, the number and LF.
-pub(crate) fn put_refused(out: &mut [u8], number: u8) -> usize
-    ensures { Wrote (refused_text number) result out.old out.new }
+pub(crate) fn put_refused(out: &mut [u8], refusal: Refusal) -> usize
+    ensures { Wrote (refused_text (number_of refusal)) result out.old out.new }
 {
-    let n = writing::add_bytes(out, 0, b"refused ");
-    let n = writing::add_number(out, n, number as u64);
-    writing::add_byte(out, n, b'\n')
+    let n = add(out, 0, b"refused ");
+    let n = add(out, n, Number(refusal.number() as u64));
+    add(out, n, b'\n')
 }
 
 // The answer to an interchange, by the acknowledgment that is asked for.
@@ -39,8 +41,7 @@ pub(crate) fn print_answer(
     ensures { Wrote (printed_reply (replies_of asked interchange.now call) (length output.old)) result output.old output.new }
 {
     match acknowledge(asked, interchange, output, call) {
-        Answer::Written(n) => n,
-        Answer::Refused(number) => put_refused(output, number),
-        Answer::TooLong(_) => put_refused(output, 14),
+        Ok(n) => n,
+        Err(refusal) => put_refused(output, refusal),
     }
 }

@@ -2,5 +2,4 @@ pub mod Search
 pub mod Stepped
 pub mod Linked
 pub mod Told
-pub mod Other
 pub mod Turns

@@ -1,9 +1,8 @@
 -- What a walk from the start has to tell is the notes of document 01.
-use Rattle.std.specs.Prelude.{if◌then◌else◌}
+use Rattle.std.specs.Prelude.{if◌then◌else◌, Option, None, Some}
 use mathlib.Core.Path.{◌≡◌, refl, sym, ap, ◌∙◌}
 use mathlib.Core.Bool.{Bool, true, false, ◌&&◌, ◌||◌, not}
 use mathlib.Core.List.{List, [], ◌∷◌, ◌++◌, map, append-nil, append_assoc}
-use mathlib.Core.Option.{none, some}
 use Prim.Native.Nat.{ℕ, zero, suc, ◌+◌, ◌-◌, ◌<◌, ◌≤◌}
 use native.Mathlib.Nat.{le_of_suc-le-suc, not-suc-le-zero, add-zero, zero-add}
 use native.Mathlib.Numerals.{add-one}
@@ -13,6 +12,7 @@ use lib.Dec.{ltb, eqb}
 use lib.ListN.{length, take, drop, get_or, length-map}
 use lib.Seq.{slice, slice_empty, take-nil, drop-cons, get_or-drop}
 use Rattle.rules.specs.Base.{Bytes, ascii, null, all, same, member, keep, every, ◌⇒◌}
+use Rattle.rules.specs.Codes.{segment_number}
 use Rattle.rules.specs.Cutting.{Segment, field, cut_at, pieces, segments}
 use Rattle.rules.specs.Tables.{Entry, Table}
 use Rattle.tables.specs.Rows.{column, is_row, filled, entry_is, entries_in, ids_in, table_of}
@@ -20,6 +20,8 @@ use Rattle.rules.specs.Elements.{Finding, findings}
 use Rattle.rules.specs.Segments.{Note, index_from, standing, findings_by, missing, echoed, noted, segment_note, walk, notes_of}
 use Rattle.rules.specs.Segments as law
 use Rattle.rules.specs.declared.Delimiters.{Delimiters}
+use Rattle.rules.specs.declared.SegmentCode.{SegmentCode}
+use Rattle.rules.specs.declared.SegmentCode.TheVariants as code
 use Rattle.rules.proofs.Logic.{all_head, all_tail}
 use Rattle.text.proofs.Loops.{all_drop}
 use Rattle.text.specs.Text.{index_where}
@@ -152,20 +154,20 @@ module _ (n : ℕ) where
 
 -- 2. The entry with an id.
 module _ (id : Bytes) where
-  index_none : (xs : Guide) (m : ℕ) → length xs ≤ index_where (is_entry_row id) xs → index_from m id (entries_in xs) ≡ none
+  index_none : (xs : Guide) (m : ℕ) → length xs ≤ index_where (is_entry_row id) xs → index_from m id (entries_in xs) ≡ None
   unfolding index_where index_from entries_in
   index_none [] m h = refl
   index_none (x ∷ xs) m h = go (is_row 1 x) (same (filled (id_in x)) id) refl h (index_none xs)
     where
       go : (b c : Bool) → same (filled (id_in x)) id ≡ c → suc (length xs) ≤ (if b && c then 0 else suc (index_where (is_entry_row id) xs))
-          → ((j : ℕ) → length xs ≤ index_where (is_entry_row id) xs → index_from j id (entries_in xs) ≡ none)
-          → index_from m id (if b then entry_is x xs ∷ entries_in xs else entries_in xs) ≡ none
+          → ((j : ℕ) → length xs ≤ index_where (is_entry_row id) xs → index_from j id (entries_in xs) ≡ None)
+          → index_from m id (if b then entry_is x xs ∷ entries_in xs else entries_in xs) ≡ None
       go false c f k ih = ih m (le_of_suc-le-suc k)
       go true true f k ih = absurd (not-suc-le-zero k)
       go true false f k ih = rw f (ih (m + 1) (le_of_suc-le-suc k))
 
   abbrev Found : Guide → ℕ → ℕ → Type 0
-  Found xs m i = (index_from m id (entries_in xs) ≡ some (m + index_at i xs)) × (is_row 1 (get_or xs i []) ≡ true)
+  Found xs m i = (index_from m id (entries_in xs) ≡ Some (m + index_at i xs)) × (is_row 1 (get_or xs i []) ≡ true)
 
   index_some : (xs : Guide) (m i : ℕ) → i ≡ index_where (is_entry_row id) xs → i < length xs → Found xs m i
   unfolding index_where index_from entries_in index_at
@@ -175,7 +177,7 @@ module _ (id : Bytes) where
       go : (b : Bool) → is_row 1 x ≡ b → (c : Bool) → same (filled (id_in x)) id ≡ c → (i : ℕ)
           → i ≡ (if b && c then 0 else suc (index_where (is_entry_row id) xs)) → i < suc (length xs)
           → ((n j : ℕ) → j ≡ index_where (is_entry_row id) xs → j < length xs → Found xs n j)
-          → (index_from m id (if b then entry_is x xs ∷ entries_in xs else entries_in xs) ≡ some (m + index_at i (x ∷ xs)))
+          → (index_from m id (if b then entry_is x xs ∷ entries_in xs else entries_in xs) ≡ Some (m + index_at i (x ∷ xs)))
           × (is_row 1 (get_or (x ∷ xs) i []) ≡ true)
       go false z c f zero q k ih = absurd (omega arith)
       go false z c f (suc i) q k ih = rw z (ih m i (omega arith) (le_of_suc-le-suc k))
@@ -197,10 +199,10 @@ note_law id n own false [] = refl
 note_law id n own true (f ∷ fs) = rw append-nil
 note_law id n own false (f ∷ fs) = rw append-nil
 
-segment_law : (d : Delimiters) (rows : Guide) (own check n : ℕ) (s : Segment)
-    → segment_events d rows own check n s ≡ flat (segment_note n own (field s 0) (checked d rows own check s))
+segment_law : (d : Delimiters) (rows : Guide) (own : Option SegmentCode) (check n : ℕ) (s : Segment)
+    → segment_events d rows own check n s ≡ flat (segment_note n (segment_number own) (field s 0) (checked d rows own check s))
 unfolding segment_events segment_note
-segment_law d rows own check n s = note_law (echoed (field s 0)) n own (not (eqb own 0)) (checked d rows own check s)
+segment_law d rows own check n s = note_law (echoed (field s 0)) n (segment_number own) (not (eqb (segment_number own) 0)) (checked d rows own check s)
 
 -- 4. How a segment stands.
 -- the present entry in the terms of document 01
@@ -228,7 +230,7 @@ module _ (ids : List (List ℕ)) (rows : Guide) (p : Present) (h : is_row 1 (get
   k = entry_row rows id
 
   abbrev Compares : Standing → Type 0
-  Compares st = (law.compared (index_at p.row rows) (some (index_at k rows)) ≡ means rows p st) × Apt rows p st
+  Compares st = (law.compared (index_at p.row rows) (Some (index_at k rows)) ≡ means rows p st) × Apt rows p st
 
   compared_law : is_row 1 (get_or rows k []) ≡ true → Compares (compared p.row k)
   compared_law f = go (ltb k p.row) refl (ltb p.row k) refl
@@ -316,14 +318,18 @@ module _ (d : Delimiters) (ids : List (List ℕ)) (rows : Guide) (closed : Bool)
 
   -- what is found in its elements
   module _ (s : Segment) where
-    abbrev Finds : ℕ → Standing → Type 0
+    abbrev Finds : Option SegmentCode → Standing → Type 0
     Finds own st = checked d rows own (check_of st p) s ≡ findings_by d (table_of ids rows) (means rows p st) s
 
-    own_law : (st : Standing) → law.own_code (table_of ids rows) (present_at rows p) (means rows p st) ≡ own_of rows st p
+    own_law : (st : Standing) → law.own_code (table_of ids rows) (present_at rows p) (means rows p st) ≡ segment_number (own_of rows st p)
     own_law Unknown = refl
     own_law Unlisted = refl
     own_law (Before k) = refl
-    own_law Again = rw (bumped_low p.used few, entry_here rows p.row h ids)
+    own_law Again = rw (bumped_low p.used few, entry_here rows p.row h ids) (go (ltb (column (get_or rows p.row []) 5) (p.used + 1)))
+      where
+        go : (b : Bool) → (if b then 5 else 0) ≡ segment_number (if b then Some code.BeyondMaximum else None)
+        go true = refl
+        go false = refl
     own_law (Later k) = refl
 
     checked_law : (st : Standing) → Apt rows p st → Finds (own_of rows st p) st
@@ -332,7 +338,7 @@ module _ (d : Delimiters) (ids : List (List ℕ)) (rows : Guide) (closed : Bool)
     checked_law (Before k) a = rw (entry_here rows k a ids)
     checked_law Again a = rw (entry_here rows p.row h ids) (go (ltb (column (get_or rows p.row []) 5) (bumped p.used)))
       where
-        go : (b : Bool) → checked d rows (if b then 5 else 0) p.row s ≡ findings d (entry_at rows p.row) s
+        go : (b : Bool) → checked d rows (if b then Some code.BeyondMaximum else None) p.row s ≡ findings d (entry_at rows p.row) s
         go true = refl
         go false = refl
     checked_law (Later k) a = rw (entry_here rows k a.0 ids)
@@ -411,6 +417,6 @@ walk_notes set d ids rows closed limits short {header} {after} e =
     let first = row_in rows 0 limits.begins in
     let size = limits.few in
     let note = segment_note 1 0 (field header 0) (findings d (entry_at rows 0) header) in
-    let told = segment_law d rows 0 0 1 header in
+    let told = segment_law d rows None 0 1 header in
     let rest = walk_law d ids rows closed (omega arith) limits.ids after (record { row = 0; used = 1 }) 2 limits.begins (omega arith) (omega arith) in
     rw (e, entry_here rows 0 limits.begins ids, told, rest) (sym (flat_append note _))

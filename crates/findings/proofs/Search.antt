@@ -1,5 +1,5 @@
 -- The entries that are missing among rows.
-use Rattle.std.specs.Prelude.{if◌then◌else◌}
+use Rattle.std.specs.Prelude.{if◌then◌else◌, Option, Some, None}
 use mathlib.Core.Path.{◌≡◌, refl}
 use mathlib.Core.Bool.{Bool, true, false, ◌&&◌, true≢false}
 use mathlib.Core.List.{List, [], ◌∷◌}
@@ -16,14 +16,12 @@ use Rattle.tables.specs.Reading.{Guide, next_mandatory, is_mandatory_row, id_at,
 use Rattle.findings.specs.Events.{Event, Line}
 use Rattle.findings.specs.Steps.{next_missing}
 use Rattle.findings.specs.Remaining.{missing_in}
-use Rattle.findings.specs.declared.Missing.{Missing}
-use Rattle.findings.specs.declared.Missing.TheVariants.{Row, Nothing}
 
 -- The mandatory rows of a list, one by one.
 -- what is told of the next one; then those after it
-abbrev pub missed_by : ℕ → Guide → ℕ → Missing → List Event
-missed_by n rows e (Row m) = Line (id_bytes (id_at rows m)) n (3 ∷ []) ∷ missing_in n (slice (m + 1) e rows)
-missed_by n rows e Nothing = []
+abbrev pub missed_by : ℕ → Guide → ℕ → Option ℕ → List Event
+missed_by n rows e (Some m) = Line (id_bytes (id_at rows m)) n (3 ∷ []) ∷ missing_in n (slice (m + 1) e rows)
+missed_by n rows e None = []
 
 module _ (n : ℕ) where
   -- what is told of a row that is missing
@@ -82,7 +80,7 @@ module _ (n : ℕ) where
             absurd (true≢false (rw (lt-ltb m e low, lt-ltb m (length rows) some) at h))
         go false l = miss_end (slice k e rows) (ltb-false i (length (slice k e rows)) l)
 
-    next : ltb m e && ltb m (length rows) ≡ true → missing_in n (slice k e rows) ≡ missed_by n rows e (Row m)
+    next : ltb m e && ltb m (length rows) ≡ true → missing_in n (slice k e rows) ≡ missed_by n rows e (Some m)
     unfolding id_at
     next h =
         let low = ltb-true m e (and_left (ltb m e) (ltb m (length rows)) h) in
@@ -97,19 +95,19 @@ module _ (n : ℕ) where
     miss_law = go (ltb m e && ltb m (length rows)) refl
       where
         go : (b : Bool) → ltb m e && ltb m (length rows) ≡ b
-            → missing_in n (slice k e rows) ≡ missed_by n rows e (if b then Row m else Nothing)
+            → missing_in n (slice k e rows) ≡ missed_by n rows e (if b then Some m else None)
         go true h = next h
         go false h = none h
 
 -- what is missing is a row of the guide
-pub missing_in_lem : (rows : Guide) (k e : ℕ) {m : ℕ} → next_missing rows k e ≡ Row m → m < length rows
+pub missing_in_lem : (rows : Guide) (k e : ℕ) {m : ℕ} → next_missing rows k e ≡ Some m → m < length rows
 unfolding next_missing
 missing_in_lem rows k e {m} h = go (ltb next e) (ltb next (length rows)) refl h
   where
     next : ℕ
     next = next_mandatory rows k e
 
-    go : (a b : Bool) → ltb next (length rows) ≡ b → (if a && b then Row next else Nothing) ≡ Row m → m < length rows
+    go : (a b : Bool) → ltb next (length rows) ≡ b → (if a && b then Some next else None) ≡ Some m → m < length rows
     go true true l q = let r : next ≡ m = cc in omega (arith, ltb-true next (length rows) l)
     go true false l q = let z : ◌≡◌ {A = ℕ} 0 1 = cc in absurd (omega arith)
     go false b l q = let z : ◌≡◌ {A = ℕ} 0 1 = cc in absurd (omega arith)

@@ -1,6 +1,6 @@
 -- What a walk tells at all, segment by segment: a segment is told by its standing, by an entry that it passes over or by its elements, or the
 -- rest decides.
-use Rattle.std.specs.Prelude.{if◌then◌else◌}
+use Rattle.std.specs.Prelude.{if◌then◌else◌, Option, Some, None, is_some}
 use mathlib.Core.Path.{◌≡◌, refl, sym, ◌∙◌}
 use mathlib.Core.Bool.{Bool, true, false, not, true≢false}
 use mathlib.Core.List.{List, [], ◌∷◌, ◌++◌, map}
@@ -10,18 +10,19 @@ use lib.Dec.{eqb, ltb}
 use lib.ListN.{take, get_or, length-take, drop_of_length-le}
 use lib.Seq.{slice}
 use Rattle.rules.specs.Base.{null, every}
+use Rattle.rules.specs.Codes.{segment_number}
 use Rattle.rules.specs.Cutting.{Segment, field}
 use Rattle.tables.specs.Rows.{column}
 use Rattle.rules.specs.Elements.{Finding, findings}
 use Rattle.rules.specs.Segments.{echoed}
 use Rattle.rules.specs.declared.Delimiters.{Delimiters}
+use Rattle.rules.specs.declared.SegmentCode.{SegmentCode}
+use Rattle.rules.specs.declared.SegmentCode.TheVariants as code
 use Rattle.tables.specs.Reading.{Guide, entry_at}
 use Rattle.findings.specs.Events.{Event, Element}
 use Rattle.findings.specs.Steps.{bumped, stands, own_of, check_of, present_of, passing_of, outcome, codes_of, next_missing}
 use Rattle.findings.specs.Remaining.{Slots, events, missing_in, lined, segment_events, walk_slots, set_slots}
-use Rattle.findings.specs.Turns.{Turn, Noted, Quiet, is_missing, used_again, used_anew, turn_by, turn_of}
-use Rattle.findings.specs.declared.Missing.{Missing}
-use Rattle.findings.specs.declared.Missing.TheVariants.{Row, Nothing}
+use Rattle.findings.specs.Turns.{Turn, Noted, Quiet, used_again, used_anew, turn_by, turn_of}
 use Rattle.findings.specs.declared.Present.{Present}
 use Rattle.findings.specs.declared.Standing.{Standing}
 use Rattle.findings.specs.declared.Standing.TheVariants.{Unknown, Unlisted, Before, Again, Later}
@@ -46,7 +47,7 @@ module _ (d : Delimiters) (ids : List (List ℕ)) (rows : Guide) (closed : Bool)
   abbrev walk : Present → ℕ → List Segment → Slots
   walk = walk_slots d ids rows closed
 
-  abbrev noted : ℕ → ℕ → ℕ → Segment → List Event
+  abbrev noted : Option SegmentCode → ℕ → ℕ → Segment → List Event
   noted = segment_events d rows
 
   -- 2. A segment by its standing.
@@ -60,15 +61,15 @@ module _ (d : Delimiters) (ids : List (List ℕ)) (rows : Guide) (closed : Bool)
     -- what a turn says of it
     abbrev Says : Turn → Standing → Type 0
     Says Noted st = null (told_by st) ≡ false
-    Says (Quiet k uses) st = told_by st ≡ noted 0 k n s ++ events (walk (record { row = k; used = uses }) (bumped n) ss)
+    Says (Quiet k uses) st = told_by st ≡ noted None k n s ++ events (walk (record { row = k; used = uses }) (bumped n) ss)
 
     -- a code is told
-    coded : (own check : ℕ) (after : Present) → eqb own 0 ≡ false
-        → null ((missing_in n (slice p.row p.row rows) ++ noted own check n s) ++ events (walk after (bumped n) ss)) ≡ false
+    coded : (own : SegmentCode) (check : ℕ) (after : Present) → eqb (segment_number (Some own)) 0 ≡ false
+        → null ((missing_in n (slice p.row p.row rows) ++ noted (Some own) check n s) ++ events (walk after (bumped n) ss)) ≡ false
     unfolding segment_events every
     coded own check after e =
         let missed = missing_in n (slice p.row p.row rows) in
-        null_left (missed ++ noted own check n s) (events (walk after (bumped n) ss)) (null_right missed (noted own check n s) (rw e))
+        null_left (missed ++ noted (Some own) check n s) (events (walk after (bumped n) ss)) (null_right missed (noted (Some own) check n s) (rw e))
 
     again : Says (used_again rows p.row (bumped p.used)) Again
     unfolding missing_in
@@ -76,20 +77,20 @@ module _ (d : Delimiters) (ids : List (List ℕ)) (rows : Guide) (closed : Bool)
       where
         go : (b : Bool) → ltb (column (get_or rows p.row []) 5) (bumped p.used) ≡ b
             → Says (if b then Noted else Quiet p.row (bumped p.used)) Again
-        go true e = rw e (coded 5 p.row (record { row = p.row; used = bumped p.used }) refl)
+        go true e = rw e (coded code.BeyondMaximum p.row (record { row = p.row; used = bumped p.used }) refl)
         go false e = rw (e, none_between p.row rows)
 
     anew : (k : ℕ) → Says (used_anew rows (bumped p.row) k) (Later k)
     anew k = go (next_missing rows (bumped p.row) k) (miss_law n rows (bumped p.row) k)
       where
-        go : (m : Missing) → missing_in n (slice (bumped p.row) k rows) ≡ missed_by n rows k m → Says (if is_missing m then Noted else Quiet k 1) (Later k)
-        go (Row m) e = rw e
-        go Nothing e = rw e
+        go : (m : Option ℕ) → missing_in n (slice (bumped p.row) k rows) ≡ missed_by n rows k m → Says (if is_some m then Noted else Quiet k 1) (Later k)
+        go (Some m) e = rw e
+        go None e = rw e
 
     turn_by_lem : (st : Standing) → Says (turn_by ids rows p st) st
-    turn_by_lem Unknown = coded 1 p.row p refl
-    turn_by_lem Unlisted = coded 6 p.row p refl
-    turn_by_lem (Before k) = coded 7 k p refl
+    turn_by_lem Unknown = coded code.NotKnown p.row p refl
+    turn_by_lem Unlisted = coded code.NotInTable p.row p refl
+    turn_by_lem (Before k) = coded code.OutOfOrder k p refl
     turn_by_lem Again = again
     turn_by_lem (Later k) = anew k
 
@@ -99,15 +100,15 @@ module _ (d : Delimiters) (ids : List (List ℕ)) (rows : Guide) (closed : Bool)
 
   -- 3. A segment by its elements.
   module _ (k n : ℕ) (s : Segment) (rest : List Event) where
-    clean_quiet : null (findings d (entry_at rows k) s) ≡ true → noted 0 k n s ++ rest ≡ rest
+    clean_quiet : null (findings d (entry_at rows k) s) ≡ true → noted None k n s ++ rest ≡ rest
     unfolding segment_events every
     clean_quiet e = go (findings d (entry_at rows k) s) e
       where
-        go : (fs : List Finding) → null fs ≡ true → (lined (echoed (field s 0)) n (codes_of 0 (not (null fs))) ++ map Element fs) ++ rest ≡ rest
+        go : (fs : List Finding) → null fs ≡ true → (lined (echoed (field s 0)) n (codes_of None (not (null fs))) ++ map Element fs) ++ rest ≡ rest
         go [] q = refl
         go (f ∷ fs) q = absurd (true≢false (sym q))
 
-    faulty_told : null (findings d (entry_at rows k) s) ≡ false → null (noted 0 k n s ++ rest) ≡ false
+    faulty_told : null (findings d (entry_at rows k) s) ≡ false → null (noted None k n s ++ rest) ≡ false
     unfolding segment_events every
     faulty_told e = rw e
 
@@ -135,7 +136,7 @@ module _ (d : Delimiters) (ids : List (List ℕ)) (rows : Guide) (closed : Bool)
       abbrev onward : List Event
       onward = events (walk (record { row = k; used = uses }) (bumped n) ss)
 
-      by_elements : events (walk p n (s ∷ ss)) ≡ noted 0 k n s ++ onward
+      by_elements : events (walk p n (s ∷ ss)) ≡ noted None k n s ++ onward
       unfolding walk_slots events outcome
       by_elements = rw e at (turn_says p n s ss)
 

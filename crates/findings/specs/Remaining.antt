@@ -1,11 +1,12 @@
 -- What a walk has left to tell: a slot for each segment and for a missing trailer, and in each slot its events.
-use Rattle.std.specs.Prelude.{ℕ, Bool, not, List, [], ◌∷◌, ◌++◌, map, eqb, drop, if◌then◌else◌}
+use Rattle.std.specs.Prelude.{ℕ, Bool, not, List, [], ◌∷◌, ◌++◌, map, eqb, drop, if◌then◌else◌, Option}
 use Rattle.std.proofs.Math.Seq.{slice}
 use Rattle.rules.specs.Base.{Bytes, ascii, null}
 use Rattle.rules.specs.Cutting.{Segment, field, split, segments}
 use Rattle.rules.specs.Elements.{Finding, findings}
 use Rattle.rules.specs.Segments.{echoed}
 use Rattle.rules.specs.declared.Delimiters.{Delimiters}
+use Rattle.rules.specs.declared.SegmentCode.{SegmentCode}
 use Rattle.text.specs.Text.{part}
 use Rattle.tables.specs.Reading.{Guide, entry_at, id_at, id_bytes, is_mandatory_row}
 use Rattle.findings.specs.Events.{Event, Line, Element}
@@ -46,11 +47,11 @@ lined id n (c ∷ cs) = Line id n (c ∷ cs) ∷ []
 
 module _ (d : Delimiters) (rows : Guide) where
   -- the findings of a segment, where its code has its elements checked
-  abbrev pub checked : ℕ → ℕ → Segment → List Finding
+  abbrev pub checked : Option SegmentCode → ℕ → Segment → List Finding
   checked own check s = if is_checked own then findings d (entry_at rows check) s else []
 
   -- the line of a segment at position n, and its findings
-  unfoldable pub segment_events : ℕ → ℕ → ℕ → Segment → List Event
+  unfoldable pub segment_events : Option SegmentCode → ℕ → ℕ → Segment → List Event
   segment_events own check n s =
       let fs = checked own check s in
       lined (echoed (field s 0)) n (codes_of own (not (null fs))) ++ map Element fs

@@ -1,8 +1,11 @@
 -- One step of the walk, as a function of the cursor: total, whatever the cursor says.
-use Rattle.std.specs.Prelude.{ℕ, ◌+◌, Bool, ◌&&◌, ◌||◌, not, List, [], ◌∷◌, ltb, eqb, length, drop, get_or, if◌then◌else◌}
+use Rattle.std.specs.Prelude.{ℕ, ◌+◌, Bool, ◌&&◌, ◌||◌, not, List, [], ◌∷◌, ltb, eqb, length, drop, get_or, if◌then◌else◌, Option, Some, None}
 use Rattle.rules.specs.Base.{Bytes, ◌⇒◌, every, ascii, member}
+use Rattle.rules.specs.Codes.{segment_number}
 use Rattle.rules.specs.Cutting.{field, split}
 use Rattle.rules.specs.declared.Delimiters.{Delimiters}
+use Rattle.rules.specs.declared.SegmentCode.{SegmentCode}
+use Rattle.rules.specs.declared.SegmentCode.TheVariants as code
 use Rattle.text.specs.Text.{index_of, part}
 use Rattle.tables.specs.Rows.{column, ids_in}
 use Rattle.tables.specs.Reading.{Guide, entry_row, next_mandatory}
@@ -11,8 +14,6 @@ use Rattle.findings.specs.declared.Walk.{Walk}
 use Rattle.findings.specs.declared.Outcome.{Outcome}
 use Rattle.findings.specs.declared.Standing.{Standing}
 use Rattle.findings.specs.declared.Standing.TheVariants.{Unknown, Unlisted, Before, Again, Later}
-use Rattle.findings.specs.declared.Missing.{Missing}
-use Rattle.findings.specs.declared.Missing.TheVariants.{Row, Nothing}
 use Rattle.findings.specs.declared.Step.{Step}
 use Rattle.findings.specs.declared.Step.TheVariants as tell
 
@@ -34,14 +35,14 @@ stands ids rows present id =
     let k = entry_row rows id in
     if member id (ids_in ids) then (if ltb k (length rows) then compared present k else Unlisted) else Unknown
 
--- what a standing comes to: the code, the row of the entry by which the elements are checked, the present entry after it, and the row from
+-- what a standing comes to: its own code, the row of the entry by which the elements are checked, the present entry after it, and the row from
 -- which on entries are passed over
-abbrev pub own_of : Guide → Standing → Present → ℕ
-own_of rows Unknown p = 1
-own_of rows Unlisted p = 6
-own_of rows (Before k) p = 7
-own_of rows Again p = if ltb (column (get_or rows p.row []) 5) (bumped p.used) then 5 else 0
-own_of rows (Later k) p = 0
+abbrev pub own_of : Guide → Standing → Present → Option SegmentCode
+own_of rows Unknown p = Some code.NotKnown
+own_of rows Unlisted p = Some code.NotInTable
+own_of rows (Before k) p = Some code.OutOfOrder
+own_of rows Again p = if ltb (column (get_or rows p.row []) 5) (bumped p.used) then Some code.BeyondMaximum else None
+own_of rows (Later k) p = None
 
 abbrev pub check_of : Standing → Present → ℕ
 check_of Unknown p = p.row
@@ -69,23 +70,23 @@ outcome rows p st = record { own = own_of rows st p; check = check_of st p; from
 
 -- what the header comes to: it is the first use of the first entry
 abbrev pub header : Outcome
-header = record { own = 0; check = 0; from = 0; present = record { row = 0; used = 1 } }
+header = record { own = None; check = 0; from = 0; present = record { row = 0; used = 1 } }
 
 -- what the next segment comes to, by its id
 unfoldable pub outcome_at : List (List ℕ) → Guide → Walk → Bytes → Outcome
 outcome_at ids rows w id = if eqb w.at 0 then header else outcome rows w.present (stands ids rows w.present.row id)
 
 -- a segment with this code has its elements checked
-abbrev pub is_checked : ℕ → Bool
-is_checked own = not (eqb own 1) && not (eqb own 6)
+abbrev pub is_checked : Option SegmentCode → Bool
+is_checked own = not (eqb (segment_number own) 1) && not (eqb (segment_number own) 6)
 
--- the codes of AK3 by the code of the standing
-abbrev pub codes_of : ℕ → Bool → List ℕ
-codes_of own faulty = every ((not (eqb own 0) ⇒ own) ∷ (faulty ⇒ 8) ∷ [])
+-- the numbers of the codes of AK3 by the code of the standing
+abbrev pub codes_of : Option SegmentCode → Bool → List ℕ
+codes_of own faulty = let n = segment_number own in every ((not (eqb n 0) ⇒ n) ∷ (faulty ⇒ 8) ∷ [])
 
 -- the first mandatory entry from row k on and before row e
-unfoldable pub next_missing : Guide → ℕ → ℕ → Missing
-next_missing rows k e = let m = next_mandatory rows k e in if ltb m e && ltb m (length rows) then Row m else Nothing
+unfoldable pub next_missing : Guide → ℕ → ℕ → Option ℕ
+next_missing rows k e = let m = next_mandatory rows k e in if ltb m e && ltb m (length rows) then Some m else None
 
 -- the segment up to end comes to this
 unfoldable pub segment_by : Walk → ℕ → Outcome → Step

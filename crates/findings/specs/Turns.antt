@@ -1,11 +1,9 @@
 -- What a segment comes to before its elements are read.
-use Rattle.std.specs.Prelude.{ℕ, Bool, true, false, List, [], ltb, get_or, if◌then◌else◌}
+use Rattle.std.specs.Prelude.{ℕ, List, [], ltb, get_or, if◌then◌else◌, is_some}
 use Rattle.rules.specs.Base.{Bytes}
 use Rattle.tables.specs.Rows.{column}
 use Rattle.tables.specs.Reading.{Guide}
 use Rattle.findings.specs.Steps.{bumped, stands, next_missing}
-use Rattle.findings.specs.declared.Missing.{Missing}
-use Rattle.findings.specs.declared.Missing.TheVariants.{Row, Nothing}
 use Rattle.findings.specs.declared.Present.{Present}
 use Rattle.findings.specs.declared.Standing.{Standing}
 use Rattle.findings.specs.declared.Standing.TheVariants.{Unknown, Unlisted, Before, Again, Later}
@@ -19,14 +17,9 @@ pub data Turn : Type 0 where
 abbrev pub used_again : Guide → ℕ → ℕ → Turn
 used_again rows k used = if ltb (column (get_or rows k []) 5) used then Noted else Quiet k used
 
--- there is a missing entry
-abbrev pub is_missing : Missing → Bool
-is_missing (Row m) = true
-is_missing Nothing = false
-
 -- the first use of the entry of row k, where none is missing from another row on
 abbrev pub used_anew : Guide → ℕ → ℕ → Turn
-used_anew rows from k = if is_missing (next_missing rows from k) then Noted else Quiet k 1
+used_anew rows from k = if is_some (next_missing rows from k) then Noted else Quiet k 1
 
 module _ (ids : List (List ℕ)) (rows : Guide) (p : Present) where
   -- a segment with this standing

@@ -1,11 +1,12 @@
 #![tactic(auto)]
 // The walk of a set through its table: a cursor goes in by value, and how the next segment stands comes back with the next cursor.
-ghost use Rattle.std.specs.Prelude.{◌≡◌, ◌+◌, ◌<◌, ltb, if◌then◌else◌};
+ghost use Rattle.std.specs.Prelude.{◌≡◌, ◌<◌, ltb, if◌then◌else◌, Some, None};
 ghost use Rattle.tables.specs.Reading.{entry_at};
 ghost use Rattle.findings.specs.Steps as steps;
 ghost use Rattle.findings.specs.declared.Standing.TheVariants as standing;
 
 use rules::{Delimiters, SegmentCode};
+use std::cmp::Ordering;
 
 // The present entry: its row, and how often it was used.
 #[derive(Clone, Copy)]
@@ -30,13 +31,13 @@ pub struct Passed {
     pub position: usize,
 }
 
-// A segment: from where to where it lies, the code of its standing, 0 for none, the row of the entry by which its elements are checked, and
-// what it passes over.
+// A segment: from where to where it lies, the code of its standing, the row of the entry by which its elements are checked, and what it passes
+// over.
 #[derive(Clone, Copy)]
 pub struct Taken {
     pub start: usize,
     pub end: usize,
-    pub own: u8,
+    pub own: Option<SegmentCode>,
     pub check: usize,
     pub passed: Passed,
 }
@@ -63,29 +64,10 @@ pub enum Standing {
 // and the present entry after it.
 #[derive(Clone, Copy)]
 struct Outcome {
-    own: u8,
+    own: Option<SegmentCode>,
     check: usize,
     from: usize,
     present: Present,
-}
-
-// A mandatory segment that is passed over, by its row.
-#[derive(Clone, Copy)]
-pub enum Missing {
-    Row(usize),
-    Nothing,
-}
-
-const LARGEST: usize = 18446744073709551615;
-
-// One more, as far as 64 bits go.
-fn bumped(n: usize) -> usize
-    ensures { result ≡ steps.bumped n }
-{
-    if n < LARGEST {
-        return n + 1;
-    }
-    n
 }
 
 // Where the walk of a set starts.
@@ -110,31 +92,26 @@ fn stands(id: &[u8], directory: &[[u8; 3]], guide: &[[u16; 6]], present: usize) 
     if guide.len() <= row {
         return Standing::Unlisted;
     }
-    if row < present {
-        return Standing::Before(row);
+    match row.cmp(&present) {
+        Ordering::Less => Standing::Before(row),
+        Ordering::Equal => Standing::Again,
+        Ordering::Greater => Standing::Later(row),
     }
-    if present < row {
-        return Standing::Later(row);
-    }
-    Standing::Again
 }
 
 // The code of a use of the entry in row k.
-fn use_code(guide: &[[u16; 6]], k: usize, used: usize) -> u8
-    ensures { result ≡ (if ltb (entry_at guide.now k).most used then 5 else 0) }
+fn use_code(guide: &[[u16; 6]], k: usize, used: usize) -> Option<SegmentCode>
+    ensures { result ≡ (if ltb (entry_at guide.now k).most used then Some SegmentCode.BeyondMaximum else None) }
 {
-    if tables::most_uses(guide, k) < used {
-        return SegmentCode::BEYOND_MAXIMUM;
-    }
-    0
+    (tables::most_uses(guide, k) < used).then_some(SegmentCode::BeyondMaximum)
 }
 
-// The present entry stays.
-fn stayed(p: Present, own: u8, check: usize) -> Outcome
-    ensures { result ≡ record { own = own; check = check; from = p.row; present = p } }
+// The segment has a code, and the present entry stays.
+fn stayed(p: Present, own: SegmentCode, check: usize) -> Outcome
+    ensures { result ≡ record { own = Some own; check = check; from = p.row; present = p } }
 {
     Outcome {
-        own,
+        own: Some(own),
         check,
         from: p.row,
         present: p,
@@ -146,7 +123,7 @@ fn repeated(guide: &[[u16; 6]], p: Present) -> Outcome
     ensures { result ≡ steps.outcome guide.now p standing.Again }
 {
     let row = p.row;
-    let used = bumped(p.used);
+    let used = p.used.saturating_add(1);
     Outcome {
         own: use_code(guide, row, used),
         check: row,
@@ -157,10 +134,10 @@ fn repeated(guide: &[[u16; 6]], p: Present) -> Outcome
 
 // The entry of row k is used for the first time, and those from row `from` on are passed over.
 fn moved(from: usize, k: usize) -> Outcome
-    ensures { result ≡ record { own = 0; check = k; from = from; present = record { row = k; used = 1 } } }
+    ensures { result ≡ record { own = None; check = k; from = from; present = record { row = k; used = 1 } } }
 {
     Outcome {
-        own: 0,
+        own: None,
         check: k,
         from,
         present: Present { row: k, used: 1 },
@@ -172,11 +149,11 @@ fn outcome_of(guide: &[[u16; 6]], p: Present, standing: Standing) -> Outcome
     ensures { result ≡ steps.outcome guide.now p standing }
 {
     match standing {
-        Standing::Unknown => stayed(p, SegmentCode::NOT_KNOWN, p.row),
-        Standing::Unlisted => stayed(p, SegmentCode::NOT_IN_TABLE, p.row),
-        Standing::Before(k) => stayed(p, SegmentCode::OUT_OF_ORDER, k),
+        Standing::Unknown => stayed(p, SegmentCode::NotKnown, p.row),
+        Standing::Unlisted => stayed(p, SegmentCode::NotInTable, p.row),
+        Standing::Before(k) => stayed(p, SegmentCode::OutOfOrder, k),
         Standing::Again => repeated(guide, p),
-        Standing::Later(k) => moved(bumped(p.row), k),
+        Standing::Later(k) => moved(p.row.saturating_add(1), k),
     }
 }
 
@@ -187,8 +164,8 @@ fn outcome_at(id: &[u8], directory: &[[u8; 3]], guide: &[[u16; 6]], w: Walk) -> 
     if w.at == 0 {
         return moved(0, 0);
     }
-    let present = w.present;
-    outcome_of(guide, present, stands(id, directory, guide, present.row))
+    let standing = stands(id, directory, guide, w.present.row);
+    outcome_of(guide, w.present, standing)
 }
 
 // The segment up to `end` comes to this.
@@ -196,24 +173,21 @@ fn segment(w: Walk, end: usize, o: Outcome) -> Step
     requires { end < 18446744073709551615 }
     ensures { result ≡ steps.segment_by w end o }
 {
-    let at = end + 1;
-    let present = o.present;
-    let passed = Passed {
-        from: o.from,
-        end: present.row,
-        position: w.position,
-    };
     let taken = Taken {
         start: w.at,
         end,
         own: o.own,
         check: o.check,
-        passed,
+        passed: Passed {
+            from: o.from,
+            end: o.present.row,
+            position: w.position,
+        },
     };
     let onward = Walk {
-        at,
-        position: bumped(w.position),
-        present,
+        at: end + 1,
+        position: w.position.saturating_add(1),
+        present: o.present,
     };
     Step::Segment(taken, onward)
 }
@@ -222,14 +196,15 @@ fn segment(w: Walk, end: usize, o: Outcome) -> Step
 fn missing_trailer(directory: &[[u8; 3]], guide: &[[u16; 6]], w: Walk) -> Step
     ensures { result ≡ steps.trailer_step directory.now guide.now w }
 {
-    match stands(&rules::SE, directory, guide, w.present.row) {
-        Standing::Later(row) => Step::Trailer(Passed {
-            from: bumped(w.present.row),
-            end: row,
-            position: w.position,
-        }),
-        _ => Step::Done,
-    }
+    let row = w.present.row;
+    let Standing::Later(end) = stands(&rules::SE, directory, guide, row) else {
+        return Step::Done;
+    };
+    Step::Trailer(Passed {
+        from: row.saturating_add(1),
+        end,
+        position: w.position,
+    })
 }
 
 // The next step of the walk of a set, with or without its trailer, through the table of a guide. A set without a segment lacks no trailer.
@@ -243,25 +218,21 @@ pub fn next(
 ) -> Step
     ensures { result ≡ steps.step set.now d directory.now guide.now closed w }
 {
-    let at = w.at;
-    if at < set.len() {
-        let end = text::find(set, at, d.terminator);
-        let id = segments::id(&set[at..end], d.element);
+    if w.at < set.len() {
+        let end = text::find(set, w.at, d.terminator);
+        let id = segments::id(&set[w.at..end], d.element);
         return segment(w, end, outcome_at(id, directory, guide, w));
     }
-    if closed | (at == 0) {
+    if closed || w.at == 0 {
         return Step::Done;
     }
     missing_trailer(directory, guide, w)
 }
 
 // The first mandatory segment from row `from` on and before row `end`.
-pub fn next_missing(guide: &[[u16; 6]], from: usize, end: usize) -> Missing
+pub fn next_missing(guide: &[[u16; 6]], from: usize, end: usize) -> Option<usize>
     ensures { result ≡ steps.next_missing guide.now from end }
 {
     let row = tables::next_mandatory(guide, from, end);
-    if row < end && row < guide.len() {
-        return Missing::Row(row);
-    }
-    Missing::Nothing
+    (row < end && row < guide.len()).then_some(row)
 }

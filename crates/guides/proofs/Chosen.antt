@@ -1,11 +1,10 @@
 -- The table that stands where a set's is sought is the one that document 01 gives it.
-use Rattle.std.specs.Prelude.{if◌then◌else◌}
+use Rattle.std.specs.Prelude.{if◌then◌else◌, is_none, Option, None, Some}
 use mathlib.Core.Path.{◌≡◌, refl}
 use mathlib.Core.Bool.{Bool, true, false, ◌&&◌, not}
 use mathlib.Core.List.{◌++◌}
-use mathlib.Core.Option.{Option, none, some}
 use lib.Dec.{lit≤}
-use Rattle.rules.specs.Base.{Bytes, ascii, same, is_none}
+use Rattle.rules.specs.Base.{Bytes, ascii, same}
 use Rattle.rules.specs.Cutting.{Segment, field}
 use Rattle.rules.specs.Tables.{Table, edition_table, set_table, table006010, table004010}
 use Rattle.rules.specs.Sets.{Set}
@@ -17,7 +16,6 @@ use Rattle.guides.specs.Choice.{has_tables, edition_in, scope_in, place_in, plac
 use Rattle.guides.specs.declared.Edition.{Edition}
 use Rattle.guides.specs.declared.Edition.TheVariants.{E006010, E004010, Other}
 use Rattle.guides.specs.declared.TableAt.{TableAt}
-use Rattle.guides.specs.declared.TableAt.TheVariants.{Nowhere}
 use Rattle.guides.proofs.Editions.{means_006010, means_004010, limits_006010, limits_004010, orderly_006010, orderly_004010}
 
 -- the rows of all tables
@@ -34,15 +32,15 @@ later_rows = refl
 
 -- the table of an edition
 abbrev table_for : Edition → Option Table
-table_for E006010 = some table006010
-table_for E004010 = some table004010
-table_for Other = none
+table_for E006010 = Some table006010
+table_for E004010 = Some table004010
+table_for Other = None
 
 edition_table_lem : (bs : Bytes) → edition_table bs ≡ table_for (edition_in bs)
 unfolding edition_table edition_in
 edition_table_lem bs = go (same bs (ascii "006010")) (same bs (ascii "004010"))
   where
-    go : (p q : Bool) → (if p then some table006010 else (if q then some table004010 else none)) ≡ table_for (if p then E006010 else (if q then E004010 else Other))
+    go : (p q : Bool) → (if p then Some table006010 else (if q then Some table004010 else None)) ≡ table_for (if p then E006010 else (if q then E004010 else Other))
     go true q = refl
     go false true = refl
     go false false = refl
@@ -69,7 +67,7 @@ table_chosen gs s =
     rw (edition_table_lem (edition gs), ← stands_there (edition_in (edition gs)))
     (go (supported gs) (same (field s.header 1) (ascii "990")) (place_in (edition_in (edition gs))))
   where
-    go : (p q : Bool) (t : TableAt) → (if p then (if q then table_at directory_rows all_rows t else none) else none) ≡ table_at directory_rows all_rows (if p && q then t else Nowhere)
+    go : (p q : Bool) (t : Option TableAt) → (if p then (if q then table_at directory_rows all_rows t else None) else None) ≡ table_at directory_rows all_rows (if p && q then t else None)
     go true true t = refl
     go true false t = refl
     go false q t = refl
@@ -85,7 +83,7 @@ pub table_stands : (gs : Segment) (st01 : Bytes) → Stands all_rows (place_of (
 unfolding scope_in place_of
 table_stands gs st01 = go (supported gs && same st01 (ascii "990")) (edition_in (edition gs))
   where
-    go : (b : Bool) (e : Edition) → Stands all_rows (if b then place_in e else Nowhere)
+    go : (b : Bool) (e : Edition) → Stands all_rows (if b then place_in e else None)
     go true e = edition_stands e
     go false e = tt
 
@@ -99,6 +97,6 @@ pub table_orderly : (gs : Segment) (st01 : Bytes) → OrderlyAt directory_rows a
 unfolding scope_in place_of
 table_orderly gs st01 = go (supported gs && same st01 (ascii "990")) (edition_in (edition gs))
   where
-    go : (b : Bool) (e : Edition) → OrderlyAt directory_rows all_rows (if b then place_in e else Nowhere)
+    go : (b : Bool) (e : Edition) → OrderlyAt directory_rows all_rows (if b then place_in e else None)
     go true e = edition_orderly e
     go false e = tt

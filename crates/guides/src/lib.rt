@@ -4,7 +4,7 @@ ghost use Rattle.std.specs.Prelude.{◌≡◌, [], ◌∷◌, ◌++◌, take};
 ghost use Rattle.rules.specs.Base.{ascii, member};
 ghost use Rattle.rules.specs.Cutting.{split};
 ghost use Rattle.guides.specs.Encoded.{guide006010, guide004010, directory_rows};
-ghost use Rattle.guides.specs.Choice.{has_tables, edition_in, scope_in, is_there, place_of};
+ghost use Rattle.guides.specs.Choice.{has_tables, place_in, edition_in, scope_in, place_of};
 
 use rules::Delimiters;
 use tables::{AN, DT, ELEMENT, ID, M, N0, NOTE, O, P, R, SEGMENT, VALUE};
@@ -90,10 +90,17 @@ impl Edition {
     pub fn has_tables(self) -> bool
         ensures { result ≡ has_tables self }
     {
+        matches!(self, Edition::E006010 | Edition::E004010)
+    }
+
+    // Where its table of a load response stands.
+    fn table(self) -> Option<TableAt>
+        ensures { result ≡ place_in self }
+    {
         match self {
-            Edition::E006010 => true,
-            Edition::E004010 => true,
-            Edition::Other => false,
+            Edition::E006010 => Some(TableAt { start: 0, end: 20 }),
+            Edition::E004010 => Some(TableAt { start: 20, end: 36 }),
+            Edition::Other => None,
         }
     }
 }
@@ -104,12 +111,12 @@ fn edition_of(gs08: &[u8]) -> Edition
 {
     let edition = text::part(gs08, 0, 6);
     if text::same_bytes(edition, &EDITION_006010) {
-        return Edition::E006010;
+        Edition::E006010
+    } else if text::same_bytes(edition, &EDITION_004010) {
+        Edition::E004010
+    } else {
+        Edition::Other
     }
-    if text::same_bytes(edition, &EDITION_004010) {
-        return Edition::E004010;
-    }
-    Edition::Other
 }
 
 // GS01 is supported.
@@ -136,39 +143,20 @@ pub fn scope_of(gs: &[u8], d: Delimiters) -> Scope
     }
 }
 
-// Where a set's table stands among the rows, where it has one: from one row up to another.
+// Where a set's table stands among the rows: from one row up to another. No `Span`: that is a part of a segment's bytes, and this counts rows.
 #[derive(Clone, Copy)]
-pub enum TableAt {
-    Rows(usize, usize),
-    Nowhere,
-}
-
-impl TableAt {
-    // There is one.
-    pub fn is_there(self) -> bool
-        ensures { result ≡ is_there self }
-    {
-        match self {
-            TableAt::Rows(_, _) => true,
-            TableAt::Nowhere => false,
-        }
-    }
+pub struct TableAt {
+    pub start: usize,
+    pub end: usize,
 }
 
 // The table of a set, by the scope of its group and its ST01.
-pub fn table_of(scope: Scope, st01: &[u8]) -> TableAt
+pub fn table_of(scope: Scope, st01: &[u8]) -> Option<TableAt>
     ensures { result ≡ place_of scope st01.now }
 {
-    if !scope.supported {
-        return TableAt::Nowhere;
-    }
-    if !text::same_bytes(st01, &LOAD_RESPONSE) {
-        return TableAt::Nowhere;
-    }
-    let edition = scope.edition;
-    match edition {
-        Edition::E006010 => TableAt::Rows(0, 20),
-        Edition::E004010 => TableAt::Rows(20, 36),
-        Edition::Other => TableAt::Nowhere,
+    if scope.supported && text::same_bytes(st01, &LOAD_RESPONSE) {
+        scope.edition.table()
+    } else {
+        None
     }
 }

@@ -1,42 +1,16 @@
--- Which bytes may be delimiters, by the ranges that a byte lies in or out of, and whether they are distinct.
+-- Whether bytes are distinct.
 use Prim.Native.Nat.{ℕ, ◌+◌, ◌<◌, ◌≤◌}
 use mathlib.Core.Path.{◌≡◌, refl, sym}
-use mathlib.Core.Bool.{Bool, true, false, ◌||◌, or-true}
+use mathlib.Core.Bool.{Bool, true, false, or-true}
 use mathlib.Core.List.{[], ◌∷◌}
 use native.Mathlib.Omega.{arith}
-use borrow.Author.Tests.{le-leb, lt-leb, leb-true, eq-eqb, ne_eqb, eqb-true, eqb-false}
-use lib.Dec.{leb, eqb}
+use borrow.Author.Tests.{eq-eqb, ne_eqb, eqb-true, eqb-false}
+use lib.Dec.{eqb}
 use lib.ListN.{length, get_or, drop, length-drop, drop_of_length-le}
-use Rattle.rules.specs.Base.{Bytes, any, between, is_upper, is_lower}
-use Rattle.rules.specs.Refusals.{plain, distinct}
+use Rattle.rules.specs.Base.{Bytes, any}
+use Rattle.rules.specs.Refusals.{distinct}
 use Rattle.text.specs.Text.{index_of, index_where}
-use Rattle.text.proofs.Loops.{and_false, left_cons}
-
-inside : (lo hi b : ℕ) → lo ≤ b → b ≤ hi → between lo hi b ≡ true
-inside lo hi b l h = rw (le-leb lo b l, le-leb b hi h)
-
-outside : (lo hi b : ℕ) → (lo ≤ b → hi < b) → between lo hi b ≡ false
-outside lo hi b h = go (leb lo b) refl
-  where
-    go : (q : Bool) → leb lo b ≡ q → between lo hi b ≡ false
-    go true e = rw (lt-leb b hi (h (leb-true lo b e))) (and_false (leb lo b))
-    go false e = rw e
-
-module _ (b : ℕ) where
-  pub plain_upper : 65 ≤ b → b ≤ 90 → plain b ≡ false
-  plain_upper l h = rw (inside 65 90 b l h)
-
-  pub plain_lower : 97 ≤ b → b ≤ 122 → plain b ≡ false
-  plain_lower l h = rw (inside 97 122 b l h, or-true (is_upper b))
-
-  pub plain_digit : 48 ≤ b → b ≤ 57 → plain b ≡ false
-  plain_digit l h = rw (inside 48 57 b l h, or-true (is_upper b || is_lower b))
-
-  pub plain_space : b ≡ 32 → plain b ≡ false
-  plain_space e = rw e
-
-  pub plain_other : (65 ≤ b → 90 < b) → (97 ≤ b → 122 < b) → (48 ≤ b → 57 < b) → (b ≡ 32 → ⊥) → plain b ≡ true
-  plain_other u l d s = rw (outside 65 90 b u, outside 97 122 b l, outside 48 57 b d, ne_eqb b 32 s)
+use Rattle.text.proofs.Loops.{left_cons}
 
 -- a byte is one of those where the search for it ends among them
 found : (b : ℕ) (xs : Bytes) → index_of b xs < length xs → any (eqb b) xs ≡ true

@@ -1,4 +1,5 @@
 -- ISA by its places: the sixteen separators, the fields between them, and the last byte.
+use Rattle.std.specs.Prelude.{Option, None, Some}
 use Prim.Native.Nat.{ℕ, zero, suc, ◌+◌, ◌-◌, ◌<◌, ◌≤◌}
 use mathlib.Core.Path.{◌≡◌, refl, sym, ap, ◌∙◌}
 use mathlib.Core.Bool.{Bool, true, ◌&&◌}
@@ -12,26 +13,16 @@ use lib.Seq.{slice, take-nil, get_or-take}
 use Rattle.rules.specs.Base.{Bytes, all, last}
 use Rattle.rules.specs.Cutting.{separators, fields_at, field, isa}
 use Rattle.rules.specs.Refusals.{text_fields}
-use Rattle.rules.specs.declared.Repetition.{Repetition}
-use Rattle.rules.specs.declared.Repetition.TheVariants.{Nothing, By}
 use Rattle.rules.proofs.Logic.{all_both, all_at}
 use Rattle.text.proofs.Loops.{all_step, all_end}
 
-pub sixteen : length separators ≡ 16
+sixteen : length separators ≡ 16
 unfolding separators
 sixteen = refl
 
 pub separator_low : (k : ℕ) → k < 16 → get_or separators k 0 < 106
 unfolding separators all
 separator_low k h = ltb-true (get_or separators k 0) 106 (all_at (λ at. ltb at 106) separators 0 k refl h)
-
--- a test over all of sixteen: x, at k, passes as q says, and the rest decides
-module _ {A : Type 0} (p : A → Bool) (xs : List A) (l : length xs ≡ 16) (k : ℕ) where
-  pub test_step : (d x : A) (q : Bool) → k < 16 → x ≡ get_or xs k d → p x ≡ q → all p (drop k xs) ≡ q && all p (drop (k + 1) xs)
-  test_step d x q h at e = all_step p xs d k q (rw l h) (ap p (sym at) ∙ e)
-
-  pub test_end : 16 ≤ k → all p (drop k xs) ≡ true
-  test_end h = all_end p xs k (rw l h)
 
 -- a test over the part of sixteen from k up to m: x, at k, passes as q says, and the rest decides
 module _ {A : Type 0} (p : A → Bool) (xs : List A) (l : length xs ≡ 16) (m : ℕ) (few : m ≤ 16) (k : ℕ) where
@@ -43,12 +34,12 @@ module _ {A : Type 0} (p : A → Bool) (xs : List A) (l : length xs ≡ 16) (m :
   part_end h = all_end p (take m xs) k (simp length-take (omega arith))
 
 -- a test over the fields of ISA that are text: over all of them, or over all but ISA11
-module _ (p : Bytes → Bool) (i : Bytes) (r : Repetition) where
-  pub texts_all : r ≡ Nothing → all p (slice 0 16 (isa i)) ≡ all p (text_fields r (isa i))
+module _ (p : Bytes → Bool) (i : Bytes) (r : Option ℕ) where
+  pub texts_all : r ≡ None → all p (slice 0 16 (isa i)) ≡ all p (text_fields r (isa i))
   unfolding isa fields_at separators
   texts_all e = rw e
 
-  pub texts_others : {b : ℕ} → r ≡ By b → all p (slice 0 11 (isa i)) && all p (slice 12 16 (isa i)) ≡ all p (text_fields r (isa i))
+  pub texts_others : {b : ℕ} → r ≡ Some b → all p (slice 0 11 (isa i)) && all p (slice 12 16 (isa i)) ≡ all p (text_fields r (isa i))
   unfolding isa fields_at separators
   texts_others e = rw e (sym (all_both p (take 11 (isa i)) (drop 12 (isa i))))
 

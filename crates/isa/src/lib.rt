@@ -8,7 +8,7 @@ ghost use Rattle.rules.specs.Cutting.{field, isa, separators, valid, marks, know
 ghost use Rattle.rules.specs.Refusals.{is_terminated, has_isa, plain, distinct, good_marks, text_fields, good_isa};
 ghost use Rattle.isa.specs.Delimited.{isa_of};
 
-use rules::{Delimiters, Interchange, Repetition};
+use rules::{Delimiters, Interchange, Refusal};
 use text::{all_valid, is_digits, same_bytes};
 
 // The fields of ISA that are read by place: the id, and ISA01 to ISA15.
@@ -31,34 +31,24 @@ const TERMINATOR: usize = 105;
 // The first control version that knows repetition.
 const FIRST_WITH_REPETITION: u64 = 402;
 
-// What ISA gives: the delimiters of the interchange, or the number of the refusal.
-#[derive(Clone, Copy)]
-pub enum Isa {
-    Sound(Delimiters),
-    Refused(u8),
-}
-
-// Refusals 2 to 5: the length of the interchange, and its ISA.
-pub fn read_isa(i: &[u8]) -> Isa
+// Refusals 2 to 5: the length of the interchange, and its ISA, which brings the delimiters.
+pub fn read_isa(i: &[u8]) -> Result<Delimiters, Refusal>
     ensures { result ≡ isa_of i.now }
 {
-    if i.len() < Interchange::SHORTEST {
-        return Isa::Refused(2);
-    }
-    if Interchange::LONGEST < i.len() {
-        return Isa::Refused(2);
+    if !text::is_between(i.len(), Interchange::SHORTEST, Interchange::LONGEST) {
+        return Err(Refusal::BadLength);
     }
     if !has_isa(i) {
-        return Isa::Refused(3);
+        return Err(Refusal::NoIsa);
     }
     let d = delimiters(i);
     if !has_good_marks(d) {
-        return Isa::Refused(4);
+        return Err(Refusal::BadDelimiters);
     }
     if !is_good_isa(i, d) {
-        return Isa::Refused(5);
+        return Err(Refusal::BadIsa);
     }
-    Isa::Sound(d)
+    Ok(d)
 }
 
 // The last byte ends a segment.
@@ -81,14 +71,15 @@ fn delimiters(i: &[u8]) -> Delimiters
 }
 
 // ISA11 where it is the repetition separator.
-fn repetition(i: &[u8]) -> Repetition
+fn repetition(i: &[u8]) -> Option<u8>
     ensures { result ≡ repetition_in i.now }
 {
     let isa11 = byte_at(i, REPETITION);
     if isa11 != b'U' && knows_repetition(isa_field(i, 12)) {
-        return Repetition::By(isa11);
+        Some(isa11)
+    } else {
+        None
     }
-    Repetition::Nothing
 }
 
 fn knows_repetition(isa12: &[u8]) -> bool
@@ -127,30 +118,16 @@ fn has_isa(i: &[u8]) -> bool
     if !same_bytes(text::part(i, 0, 3), &rules::ISA) {
         return false;
     }
-    // The array is laid out anew wherever it is named, so it is named once.
-    let separators = SEPARATORS;
-    let mut k = 0;
-    while k < FIELDS {
-        if byte_at(i, separators[k]) != byte_at(i, ELEMENT) {
-            return false;
-        }
-        k += 1;
-    }
-    true
+    let e = byte_at(i, ELEMENT);
+    SEPARATORS.iter().all(|&at| byte_at(i, at) == e)
 }
 
 fn has_good_marks(d: Delimiters) -> bool
     ensures { result ≡ good_marks (marks d) }
 {
-    let repetition = d.repetition;
-    match repetition {
-        Repetition::Nothing => are_good_marks(&[d.element, d.component, d.terminator]),
-        Repetition::By(separator) => are_good_marks(&[
-            d.element,
-            d.component,
-            d.terminator,
-            separator,
-        ]),
+    match d.repetition {
+        None => are_good_marks(&[d.element, d.component, d.terminator]),
+        Some(separator) => are_good_marks(&[d.element, d.component, d.terminator, separator]),
     }
 }
 
@@ -164,12 +141,10 @@ fn are_good_marks(marks: &[u8]) -> bool
 fn are_distinct(bytes: &[u8]) -> bool
     ensures { result ≡ distinct bytes.now }
 {
-    let mut k = 0;
-    while k < bytes.len() {
+    for k in 0..bytes.len() {
         if text::find(bytes, k + 1, bytes[k]) < bytes.len() {
             return false;
         }
-        k += 1;
     }
     true
 }
@@ -177,24 +152,14 @@ fn are_distinct(bytes: &[u8]) -> bool
 fn are_plain(bytes: &[u8]) -> bool
     ensures { result ≡ all plain bytes.now }
 {
-    let mut k = 0;
-    while k < bytes.len() {
-        if !is_plain(bytes[k]) {
-            return false;
-        }
-        k += 1;
-    }
-    true
+    bytes.iter().all(|&b| is_plain(b))
 }
 
 // No letter, digit or space.
 fn is_plain(b: u8) -> bool
     ensures { result ≡ plain b }
 {
-    match b {
-        b'A'..=b'Z' | b'a'..=b'z' | b'0'..=b'9' | b' ' => false,
-        _ => true,
-    }
+    !(b.is_ascii_alphanumeric() || b == b' ')
 }
 
 fn is_good_isa(i: &[u8], d: Delimiters) -> bool
@@ -213,10 +178,9 @@ fn is_good_isa(i: &[u8], d: Delimiters) -> bool
 fn are_valid_text_fields(i: &[u8], d: Delimiters) -> bool
     ensures { result ≡ all (all (valid d)) (text_fields d.repetition (isa i.now)) }
 {
-    let repetition = d.repetition;
-    match repetition {
-        Repetition::Nothing => are_valid_fields(i, d, 0, FIELDS),
-        Repetition::By(_) => are_valid_fields(i, d, 0, 11) && are_valid_fields(i, d, 12, FIELDS),
+    match d.repetition {
+        None => are_valid_fields(i, d, 0, FIELDS),
+        Some(_) => are_valid_fields(i, d, 0, 11) && are_valid_fields(i, d, 12, FIELDS),
     }
 }
 
@@ -226,12 +190,10 @@ fn are_valid_fields(i: &[u8], d: Delimiters, from: usize, to: usize) -> bool
     ensures { result ≡ all (all (valid d)) (slice from to (isa i.now)) }
 {
     let separators = SEPARATORS;
-    let mut n = from;
-    while n < to {
+    for n in from..to {
         if !all_valid(field_at(i, &separators, n), d) {
             return false;
         }
-        n += 1;
     }
     true
 }
@@ -240,31 +202,19 @@ fn are_valid_fields(i: &[u8], d: Delimiters, from: usize, to: usize) -> bool
 fn is_usage(s: &[u8]) -> bool
     ensures { result ≡ member s.now (ascii "P" ∷ ascii "T" ∷ ascii "I" ∷ []) }
 {
-    if same_bytes(s, b"P") {
-        return true;
-    }
-    if same_bytes(s, b"T") {
-        return true;
-    }
-    same_bytes(s, b"I")
+    same_bytes(s, b"P") || same_bytes(s, b"T") || same_bytes(s, b"I")
 }
 
-// The byte at a place, 0 past the end.
+// The byte at a place, 0 past the end: one expression of the library.
 fn byte_at(i: &[u8], at: usize) -> u8
     ensures { result ≡ get_or i.now at 0 }
 {
-    if at < i.len() {
-        return i[at];
-    }
-    0
+    i.get(at).copied().unwrap_or(0)
 }
 
 // The last byte, 0 where there is none.
 fn last_byte(i: &[u8]) -> u8
     ensures { result ≡ last 0 i.now }
 {
-    if i.len() == 0 {
-        return 0;
-    }
-    i[i.len() - 1]
+    i.last().copied().unwrap_or(0)
 }

@@ -1,5 +1,5 @@
 -- A look at a set is quiet where the set has a trailer and its walk tells nothing.
-use Rattle.std.specs.Prelude.{if◌then◌else◌}
+use Rattle.std.specs.Prelude.{if◌then◌else◌, option_to_list, Option, None, Some}
 use mathlib.Core.Path.{◌≡◌, refl, sym, ap, ◌∙◌}
 use mathlib.Core.Bool.{Bool, true, false, ◌&&◌}
 use mathlib.Core.List.{List, [], ◌∷◌, ◌++◌}
@@ -9,7 +9,7 @@ use native.Mathlib.Omega.{arith}
 use borrow.Author.Tests.{lt-ltb, ltb-true, ltb-false, leb-true}
 use lib.Dec.{eqb, ltb}
 use lib.ListN.{length, get_or, take, drop}
-use Rattle.rules.specs.Base.{Bytes, null, listed}
+use Rattle.rules.specs.Base.{Bytes, null}
 use Rattle.rules.specs.Cutting.{Segment, field, split, pieces, segments}
 use Rattle.rules.specs.Elements.{findings}
 use Rattle.rules.specs.Sets.{is_st, is_se, body_of, trailer_of}
@@ -34,30 +34,26 @@ use Rattle.findings.proofs.Turns.{first_faulty, first_clean, next_noted, next_fa
 use Rattle.look.specs.Bytes.{valid_bytes}
 use Rattle.look.specs.Passing.{id_end, passed}
 use Rattle.look.specs.Looking.{turn_on, afterward, step_by, step_on, step_at, look_by, look_from, opened_by, looked}
-use Rattle.look.specs.declared.segment.Passed.TheVariants.{Clean, Faulty}
-use Rattle.look.specs.declared.Look.{Look}
-use Rattle.look.specs.declared.Look.TheVariants.{Quiet, Odd}
 use Rattle.look.specs.declared.Course.{Course}
 use Rattle.look.specs.declared.Turn.{Turn}
-use Rattle.look.specs.declared.Turn.TheVariants as turn
 use Rattle.look.specs.declared.Step.TheVariants as step
 use Rattle.look.proofs.Passing.{Fits, passed_law, id_field}
 use Rattle.look.proofs.Turning.{Keeps, Agrees, turn_agrees}
 
 -- 1. What a look answers, by the set's place and what is told of it.
-abbrev answered : SetAt → List Event → Look
-answered place told = if place.closed && null told then Quiet place else Odd
+abbrev answered : SetAt → List Event → Option SetAt
+answered place told = if place.closed && null told then Some place else None
 
-odd_told : (place : SetAt) (told : List Event) → null told ≡ false → answered place told ≡ Odd
+odd_told : (place : SetAt) (told : List Event) → null told ≡ false → answered place told ≡ None
 odd_told place told e = go place.closed
   where
-    go : (b : Bool) → (if b && null told then Quiet place else Odd) ≡ Odd
+    go : (b : Bool) → (if b && null told then Some place else None) ≡ None
     go true = rw e
     go false = refl
 
 -- a set's own segments among those after its header: up to its trailer, or before the next header
 abbrev own : List Segment → List Segment
-own ss = body_of ss ++ listed (trailer_of ss)
+own ss = body_of ss ++ option_to_list (trailer_of ss)
 
 own_last : (s : Segment) (ss : List Segment) → is_se s ≡ true → own (s ∷ ss) ≡ s ∷ []
 unfolding body_of trailer_of
@@ -96,7 +92,7 @@ module _ (d : Delimiters) (ids : List (List ℕ)) (rows : Guide) (body : Bytes) 
 
     pass_here : (row : ℕ) → is_row 1 (get_or rows row []) ≡ true
         → passed (valid_bytes d) d (drop at body) rows row (id_end d (drop at body))
-        ≡ (if null (findings d (entry_at rows row) here) then Clean (index_of d.terminator (drop at body)) (next_where (is_row 1) rows (row + 1)) else Faulty)
+        ≡ (if null (findings d (entry_at rows row) here) then Some (record { length = index_of d.terminator (drop at body); next = next_where (is_row 1) rows (row + 1) }) else None)
     pass_here row e =
         rw (← cut_here, passed_law d apart (drop at body) rows row (fits row e), lt-ltb row (length rows) (row_within 1 (omega arith) rows row e))
 
@@ -113,13 +109,13 @@ module _ (d : Delimiters) (ids : List (List ℕ)) (rows : Guide) (body : Bytes) 
     told p n ss = events (walk_slots d ids rows true p n ss)
 
     -- a look at a course is answered so
-    abbrev Says : Course → ℕ → Look → Type 0
+    abbrev Says : Course → ℕ → Option SetAt → Type 0
     Says c n look = look ≡ answered (place c.segments c.at) (told (record { row = c.row; used = c.used }) n (rest c.at))
 
-    abbrev onward : ℕ → Course → Look
+    abbrev onward : ℕ → Course → Option SetAt
     onward fuel = look_from (valid_bytes d) d rows body start header fuel
 
-    says_ended : (c : Course) (n : ℕ) → length body ≤ c.at → Says c n Odd
+    says_ended : (c : Course) (n : ℕ) → length body ≤ c.at → Says c n None
     says_ended c n h = rw (set_ends d.terminator body c.at h d.element start header c.segments)
 
     module _ (fuel : ℕ) (c : Course) (n : ℕ) (h : c.at < length body) (keeps : Keeps rows c)
@@ -143,10 +139,10 @@ module _ (d : Delimiters) (ids : List (List ℕ)) (rows : Guide) (body : Bytes) 
       placed = set_goes d.terminator body c.at (end c.at) h refl d.element start header c.segments
 
       -- where something is told of a set that begins with the segment
-      says_odd : ((ss : List Segment) → null (told p n (s ∷ ss)) ≡ false) → Says c n Odd
+      says_odd : ((ss : List Segment) → null (told p n (s ∷ ss)) ≡ false) → Says c n None
       says_odd f = go (is_se s) refl (is_st s) refl
         where
-          go : (se : Bool) → is_se s ≡ se → (st : Bool) → is_st s ≡ st → Says c n Odd
+          go : (se : Bool) → is_se s ≡ se → (st : Bool) → is_st s ≡ st → Says c n None
           go true e st g = rw (cut, own_last s after e) (sym (odd_told (place c.segments c.at) (told p n (s ∷ [])) (f [])))
           go false e true g = rw (placed false true e g)
           go false e false g = rw (cut, own_next s after e g) (sym (odd_told (place c.segments c.at) (told p n (s ∷ own after)) (f (own after))))
@@ -166,7 +162,7 @@ module _ (d : Delimiters) (ids : List (List ℕ)) (rows : Guide) (body : Bytes) 
           where
             go : (se : Bool) → is_se s ≡ se → (st : Bool) → is_st s ≡ st
                 → Says c n (look_by (valid_bytes d) d rows body start header (onward fuel) c
-                (if se then step.Closed next.at else (if st then step.Odd else step.On next)))
+                (if se then Some (step.Closed next.at) else (if st then None else Some (step.On next))))
             go true q st g =
                 rw (placed true st q g, cut, own_last s after q, onto [], closed_silent d ids rows true (record { row = k; used = uses }) (bumped n) refl)
             go false q true g = rw (placed false true q g)
@@ -175,16 +171,16 @@ module _ (d : Delimiters) (ids : List (List ℕ)) (rows : Guide) (body : Bytes) 
                 (further next (bumped n) (omega arith) (record { entry = entry; onward = refl; few = omega (arith, keeps.few) }))
 
       -- by where the segment stands
-      says_by : (t : Turn) → Agrees ids rows limits orderly c keeps (omega arith) (field s 0) t
+      says_by : (t : Option Turn) → Agrees ids rows limits orderly c keeps (omega arith) (field s 0) t
           → Says c n (look_by (valid_bytes d) d rows body start header (onward fuel) c (step_on (valid_bytes d) d rows body c t))
-      says_by turn.Odd a = says_odd (λ ss. next_noted d ids rows true p n s ss a.0)
-      says_by (turn.At k uses) a = rw (pass_here c.at k a.1.0) (go (null (findings d (entry_at rows k) s)) refl)
+      says_by None a = says_odd (λ ss. next_noted d ids rows true p n s ss a.0)
+      says_by (Some t) a = rw (pass_here c.at t.row a.1.0) (go (null (findings d (entry_at rows t.row) s)) refl)
         where
-          go : (b : Bool) → null (findings d (entry_at rows k) s) ≡ b
+          go : (b : Bool) → null (findings d (entry_at rows t.row) s) ≡ b
               → Says c n (look_by (valid_bytes d) d rows body start header (onward fuel) c
-              (step_by (valid_bytes d) d rows body c k uses
-              (if b then Clean (index_of d.terminator (drop c.at body)) (next_where (is_row 1) rows (k + 1)) else Faulty)))
-          go true f = rw (id_here c.at) (says_on k uses a.0 f a.1.0 a.1.1)
+              (step_by (valid_bytes d) d rows body c t
+              (if b then Some (record { length = index_of d.terminator (drop c.at body); next = next_where (is_row 1) rows (t.row + 1) }) else None)))
+          go true f = rw (id_here c.at) (says_on t.row t.used a.0 f a.1.0 a.1.1)
           go false f = says_odd (λ ss. next_faulty d ids rows true p n s ss a.0 f)
 
       says_at : Says c n (onward (suc fuel) c)
@@ -207,7 +203,7 @@ pub look_is : (d : Delimiters) {ids : List (List ℕ)} {rows : Guide} (body : By
     → eqb d.element d.terminator ≡ false → Limits rows → Orderly ids rows
     → looked (valid_bytes d) d rows body at
     ≡ (let place = set_at d body at in
-    if place.closed && null (events (remaining (part body at place.end) d ids rows true start)) then Quiet place else Odd)
+    if place.closed && null (events (remaining (part body at place.end) d ids rows true start)) then Some place else None)
 unfolding looked remaining start
 look_is d {ids} {rows} body {at} h small apart limits orderly =
     rw (lt-ltb at (length body) h, pass_here d ids rows body small apart limits orderly at 0 limits.begins, set_whole d body at (set_at d body at) h refl {end = first} refl)
@@ -223,7 +219,7 @@ look_is d {ids} {rows} body {at} h small apart limits orderly =
     after = own (segments d (drop (first + 1) body))
 
     go : (b : Bool) → null (findings d (entry_at rows 0) header) ≡ b
-        → opened_by (valid_bytes d) d rows body at (if b then Clean (index_of d.terminator (drop at body)) (next_where (is_row 1) rows 1) else Faulty)
+        → opened_by (valid_bytes d) d rows body at (if b then Some (record { length = index_of d.terminator (drop at body); next = next_where (is_row 1) rows 1 }) else None)
         ≡ answered (set_at d body at) (events (set_slots d ids rows true 1 (header ∷ after)))
     go true f =
         rw (first_clean d ids rows true header after f, set_opens d body at first h refl)

@@ -1,10 +1,9 @@
 -- A look at the segment that the bytes begin with comes to what the segment's own bytes say, where the table has the valid bytes.
-use Rattle.std.specs.Prelude.{if◌then◌else◌}
+use Rattle.std.specs.Prelude.{if◌then◌else◌, Option, None, Some}
 use Prim.Native.Nat.{ℕ, zero, suc, ◌+◌, ◌-◌, ◌<◌, ◌≤◌, suc-le-suc}
 use mathlib.Core.Path.{◌≡◌, refl, sym, ap, ◌∙◌}
 use mathlib.Core.Bool.{Bool, true, false, ◌&&◌, ◌||◌, not, true≢false}
 use mathlib.Core.List.{List, [], ◌∷◌, ◌++◌, map}
-use mathlib.Core.Option.{Option, none, some}
 use native.Mathlib.Nat.{le_of_suc-le-suc, not-suc-le-zero, zero-lt-suc, zero-add}
 use native.Mathlib.Omega.{arith}
 use borrow.Author.Tests.{lt-ltb, le-ltb, ltb-true, ltb-false, le-leb, lt-leb, leb-true, leb-false, eq-eqb, ne_eqb, eqb-true, eqb-false}
@@ -36,7 +35,6 @@ use Rattle.elements.proofs.Places.{after_order, after_within, next_field, next_p
 use Rattle.look.specs.Bytes.{valid_bytes, is_other}
 use Rattle.look.specs.Passing.{id_end, start_after, is_over, read_rows, passed_by, passed}
 use Rattle.look.specs.declared.segment.Passed.{Passed}
-use Rattle.look.specs.declared.segment.Passed.TheVariants.{Clean, Faulty}
 use Rattle.look.proofs.Bytes.{table_valid}
 use Rattle.look.proofs.Reading.{read_skip, read_row, read_stop, read_end}
 
@@ -90,20 +88,20 @@ module _ {n count : ℕ} {r : List ℕ} {rs : Guide} (w : Fits n count (r ∷ rs
 
 -- what the rows after the last element come to
 read_notes : (table : List Bool) (d : Delimiters) (rest : Bytes) (rs : Guide) (end : ℕ) (m : Marks) → rows_in rs ≡ []
-    → read_rows table d rest rs end m ≡ (if any (breaks_note (marked m)) (syntax_in rs) then none else some end)
+    → read_rows table d rest rs end m ≡ (if any (breaks_note (marked m)) (syntax_in rs) then None else Some end)
 unfolding read_rows rows_in syntax_in any
 read_notes table d rest [] end m e = refl
 read_notes table d rest (r ∷ rs) end m e = by (is_row 1 r) refl (is_row 2 r) refl (is_row 4 r) refl (read_notes table d rest rs end m)
   where
     by : (a : Bool) → is_row 1 r ≡ a → (b : Bool) → is_row 2 r ≡ b → (o : Bool) → is_row 4 r ≡ o
-        → (rows_in rs ≡ [] → read_rows table d rest rs end m ≡ (if any (breaks_note (marked m)) (syntax_in rs) then none else some end))
-        → read_rows table d rest (r ∷ rs) end m ≡ (if any (breaks_note (marked m)) (syntax_in (r ∷ rs)) then none else some end)
+        → (rows_in rs ≡ [] → read_rows table d rest rs end m ≡ (if any (breaks_note (marked m)) (syntax_in rs) then None else Some end))
+        → read_rows table d rest (r ∷ rs) end m ≡ (if any (breaks_note (marked m)) (syntax_in (r ∷ rs)) then None else Some end)
     by true p b q o z f = rw p
     by false p true q o z f = let e' : ◌≡◌ {A = List Row} (row_is r (codes_in rs) ∷ rows_in rs) [] = rw (p, q) at e in let y : ◌≡◌ {A = ℕ} 0 1 = cc in absurd (omega arith)
     by false p false q false z f = rw (p, q, z) (f (rw (p, q) at e))
     by false p false q true z f = rw (p, q, z, f (rw (p, q) at e)) (go (breaks_note (marked m) (note_is r)) (any (breaks_note (marked m)) (syntax_in rs)))
       where
-        go : (b c : Bool) → ◌≡◌ {A = Option ℕ} (if b then none else (if c then none else some end)) (if b || c then none else some end)
+        go : (b c : Bool) → ◌≡◌ {A = Option ℕ} (if b then None else (if c then None else Some end)) (if b || c then None else Some end)
         go true c = refl
         go false c = refl
 
@@ -468,29 +466,29 @@ module _ (d : Delimiters) (apart : eqb d.element d.terminator ≡ false) (rest :
 
   module _ (rows : Guide) (below : ℕ) where
     -- what the look comes to by these rows
-    abbrev come : Guide → ℕ → Marks → Passed
+    abbrev come : Guide → ℕ → Marks → Option Passed
     come rs end m = passed_by (valid_bytes d) d rest rows below (read_rows (valid_bytes d) d rest rs end m)
 
     -- where it is stuck, something is found
-    stuck_rows : (rs : Guide) (end : ℕ) (m : Marks) → Stuck end → come rs end m ≡ Faulty
+    stuck_rows : (rs : Guide) (end : ℕ) (m : Marks) → Stuck end → come rs end m ≡ None
     unfolding start_after is_over
     stuck_rows rs end m s = go rs m
       where
-        over : passed_by (valid_bytes d) d rest rows below (some end) ≡ Faulty
+        over : passed_by (valid_bytes d) d rest rows below (Some end) ≡ None
         over = rw (lt-ltb end (length rest) s.within, s.apart_t)
 
         stays : start_after d.element rest end ≡ end
         stays = rw (lt-ltb end (length rest) s.within, s.apart_e)
 
-        go : (rs : Guide) (m : Marks) → come rs end m ≡ Faulty
+        go : (rs : Guide) (m : Marks) → come rs end m ≡ None
         go [] m = rw (read_end (valid_bytes d) d rest [] 0 end m (omega arith)) over
         go (r ∷ rs) m = by (is_row 1 r) refl (is_row 2 r) refl (go rs)
           where
-            by : (a : Bool) → is_row 1 r ≡ a → (b : Bool) → is_row 2 r ≡ b → ((n : Marks) → come rs end n ≡ Faulty) → come (r ∷ rs) end m ≡ Faulty
+            by : (a : Bool) → is_row 1 r ≡ a → (b : Bool) → is_row 2 r ≡ b → ((n : Marks) → come rs end n ≡ None) → come (r ∷ rs) end m ≡ None
             by true p b q f = rw (read_stop (valid_bytes d) d rest (r ∷ rs) 0 end m p) over
             by false p false q f = rw (read_skip (valid_bytes d) d rest (r ∷ rs) 0 end m (omega arith) p q) (skipped (is_row 4 r && breaks_note (marked m) (note_is r)))
               where
-                skipped : (g : Bool) → passed_by (valid_bytes d) d rest rows below (if g then none else read_rows (valid_bytes d) d rest rs end m) ≡ Faulty
+                skipped : (g : Bool) → passed_by (valid_bytes d) d rest rows below (if g then None else read_rows (valid_bytes d) d rest rs end m) ≡ None
                 skipped true = refl
                 skipped false = f m
             by false p true q f =
@@ -498,7 +496,7 @@ module _ (d : Delimiters) (apart : eqb d.element d.terminator ≡ false) (rest :
                 (taken (eqb (row_code (row_is r (codes_in rs)) (part rest end end)) 0))
               where
                 taken : (g : Bool)
-                    → passed_by (valid_bytes d) d rest rows below (if g then read_rows (valid_bytes d) d rest rs end (marked_with m (ltb end end)) else none) ≡ Faulty
+                    → passed_by (valid_bytes d) d rest rows below (if g then read_rows (valid_bytes d) d rest rs end (marked_with m (ltb end end)) else None) ≡ None
                 taken true = f (marked_with m (ltb end end))
                 taken false = refl
 
@@ -511,7 +509,7 @@ module _ (d : Delimiters) (apart : eqb d.element d.terminator ≡ false) (rest :
 
     -- the look comes to what these say
     abbrev Says : Guide → ℕ → ℕ → Marks → Type 0
-    Says rs n end m = come rs end m ≡ (if silent rs n && sound rs then Clean last (next_where (is_row 1) rows below) else Faulty)
+    Says rs n end m = come rs end m ≡ (if silent rs n && sound rs then Some (record { length = last; next = next_where (is_row 1) rows below }) else None)
 
     -- after the last element
     come_notes : (rs : Guide) (n end : ℕ) (m : Marks) → Come n end → Marked (present fields) n m → n ≤ 63 → rows_in rs ≡ []
@@ -521,7 +519,8 @@ module _ (d : Delimiters) (apart : eqb d.element d.terminator ≡ false) (rest :
         (go (any (breaks_note (present fields)) (syntax_in rs)))
       where
         ends : (b : Bool) → leb (length bytes) end ≡ b
-            → (if b then Clean end (next_where (is_row 1) rows below) else Faulty) ≡ (if b && true then Clean last (next_where (is_row 1) rows below) else Faulty)
+            → ◌≡◌ {A = Option Passed} (if b then Some (record { length = end; next = next_where (is_row 1) rows below }) else None)
+            (if b && true then Some (record { length = last; next = next_where (is_row 1) rows below }) else None)
         ends true e =
             let l = leb-true (length bytes) end e in
             let z : end ≡ last = omega (arith, size, c.within) in
@@ -529,8 +528,8 @@ module _ (d : Delimiters) (apart : eqb d.element d.terminator ≡ false) (rest :
         ends false e = refl
 
         go : (broken : Bool)
-            → passed_by (valid_bytes d) d rest rows below (if broken then none else some end)
-            ≡ (if leb (length bytes) end && not broken then Clean last (next_where (is_row 1) rows below) else Faulty)
+            → passed_by (valid_bytes d) d rest rows below (if broken then None else Some end)
+            ≡ (if leb (length bytes) end && not broken then Some (record { length = last; next = next_where (is_row 1) rows below }) else None)
         go true = rw (and_false (leb (length bytes) end))
         go false = rw (over_is c) (ends (leb (length bytes) end) refl)
 
@@ -547,7 +546,7 @@ module _ (d : Delimiters) (apart : eqb d.element d.terminator ≡ false) (rest :
       more = marked_with m (ltb (start c) (next c))
 
       -- what the row comes to
-      read : come (r ∷ rs) end m ≡ passed_by (valid_bytes d) d rest rows below (if good then read_rows (valid_bytes d) d rest rs (next c) more else none)
+      read : come (r ∷ rs) end m ≡ passed_by (valid_bytes d) d rest rows below (if good then read_rows (valid_bytes d) d rest rs (next c) more else None)
       read = ap (passed_by (valid_bytes d) d rest rows below) (read_row (valid_bytes d) d rest (r ∷ rs) 0 end m (omega arith) no-segment element)
 
       -- what is left to be found
@@ -566,9 +565,9 @@ module _ (d : Delimiters) (apart : eqb d.element d.terminator ≡ false) (rest :
           rw (read, left said, same_notes) (go good (read_rows (valid_bytes d) d rest rs (next c) more) (silent rs (n + 1)) (sound rs) f)
         where
           go : (good : Bool) (s : Option ℕ) (silent sound : Bool)
-              → passed_by (valid_bytes d) d rest rows below s ≡ (if silent && sound then Clean last (next_where (is_row 1) rows below) else Faulty)
-              → passed_by (valid_bytes d) d rest rows below (if good then s else none)
-              ≡ (if ((good && true) && silent) && sound then Clean last (next_where (is_row 1) rows below) else Faulty)
+              → passed_by (valid_bytes d) d rest rows below s ≡ (if silent && sound then Some (record { length = last; next = next_where (is_row 1) rows below }) else None)
+              → passed_by (valid_bytes d) d rest rows below (if good then s else None)
+              ≡ (if ((good && true) && silent) && sound then Some (record { length = last; next = next_where (is_row 1) rows below }) else None)
           go true s silent sound g = g
           go false s silent sound g = refl
 
@@ -592,7 +591,7 @@ module _ (d : Delimiters) (apart : eqb d.element d.terminator ≡ false) (rest :
               }
 
           go : (good : Bool)
-              → passed_by (valid_bytes d) d rest rows below (if good then read_rows (valid_bytes d) d rest rs (next c) more else none) ≡ Faulty
+              → passed_by (valid_bytes d) d rest rows below (if good then read_rows (valid_bytes d) d rest rs (next c) more else None) ≡ None
           go true = stuck_rows rs (next c) more stuck
           go false = refl
 
@@ -626,7 +625,7 @@ pub passed_law : (d : Delimiters) → eqb d.element d.terminator ≡ false → (
     → passed (valid_bytes d) d rest rows entry (id_end d rest)
     ≡ (let end = index_of d.terminator rest in
     if null (findings d (entry_at rows entry) (split d.element (take end rest)))
-    then Clean end (next_where (is_row 1) rows (row_below rows entry)) else Faulty)
+    then Some (record { length = end; next = next_where (is_row 1) rows (row_below rows entry) }) else None)
 unfolding passed findings
 passed_law d apart rest rows entry w =
     let below = row_below rows entry in

@@ -1,10 +1,10 @@
 -- The rows of an entry at a cursor: what the field of one row comes to, and what is left from the next row on.
-use Rattle.std.specs.Prelude.{if◌then◌else◌}
-use Prim.Native.Nat.{ℕ, ◌+◌, ◌-◌, ◌<◌, ◌≤◌}
+use Rattle.std.specs.Prelude.{if◌then◌else◌, Option, None, Some}
+use Prim.Native.Nat.{ℕ, ◌+◌, ◌-◌, ◌<◌, ◌≤◌, max}
+use Rattle.std.specs.Bool.{then_some}
 use mathlib.Core.Path.{◌≡◌, refl, ap, ◌∙◌}
 use mathlib.Core.Bool.{Bool, true, false, ◌&&◌}
 use mathlib.Core.List.{List, [], ◌∷◌}
-use mathlib.Core.Option.{none, some}
 use native.Mathlib.Numerals.{add-one}
 use native.Mathlib.Omega.{arith}
 use borrow.Author.Tests.{ltb-true}
@@ -19,13 +19,14 @@ use Rattle.text.proofs.Where.{index_le, next_here, next_later, next_none, next_w
 use Rattle.tables.specs.Rows.{is_row}
 use Rattle.tables.specs.Reading.{Guide, row_at, note_at, row_below}
 use Rattle.tables.proofs.Laws.{row_within}
+use Rattle.text.proofs.Library.{next_past}
 use Rattle.elements.specs.Values.{row_code, takes_length}
 use Rattle.elements.specs.Marks.{no_marks, marked_with, marked, breaks_note}
 use Rattle.elements.specs.declared.Marks.{Marks}
 use Rattle.elements.proofs.Codes.{valid_filled, takes_length_lem}
 use Rattle.look.specs.Bytes.{is_other}
+use Rattle.look.specs.declared.segment.Passed.{Passed}
 use Rattle.look.specs.Passing.{id_end, start_after, is_over, begins, stops, marks_with, read_rows, passed}
-use Rattle.look.specs.declared.segment.Passed.TheVariants.{Clean, Faulty}
 
 -- the id ends within the bytes
 pub id_within : (d : Delimiters) (rest : Bytes) → id_end d rest ≤ length rest
@@ -47,8 +48,8 @@ pub taken_by : (r : Row) (rest : Bytes) (start end : ℕ) → start < end → en
     → eqb (row_code r (part rest start end)) 0 ≡ true
 taken_by r rest start end h l e =
     let size : length (part rest start end) ≡ end - start = omega (arith, length-take (end - start) (drop start rest), length-drop start rest) in
-    let none = takes_length_lem r (part rest start end) (rw size e) in
-    rw (valid_filled r (part rest start end) (λ z. omega arith), none)
+    let absent = takes_length_lem r (part rest start end) (rw size e) in
+    rw (valid_filled r (part rest start end) (λ z. omega arith), absent)
 
 module _ (table : List Bool) (d : Delimiters) (rest : Bytes) (rows : Guide) (k end : ℕ) (m : Marks) where
   here : k < length rows → drop k rows ≡ get_or rows k [] ∷ drop (k + 1) rows
@@ -57,22 +58,22 @@ module _ (table : List Bool) (d : Delimiters) (rest : Bytes) (rows : Guide) (k e
   -- a row that is neither a segment nor an element, by whether it is a note that is broken
   pub read_skip : k < length rows → is_row 1 (get_or rows k []) ≡ false → is_row 2 (get_or rows k []) ≡ false
       → read_rows table d rest (drop k rows) end m
-      ≡ (if is_row 4 (get_or rows k []) && breaks_note (marked m) (note_at rows k) then none else read_rows table d rest (drop (k + 1) rows) end m)
+      ≡ (if is_row 4 (get_or rows k []) && breaks_note (marked m) (note_at rows k) then None else read_rows table d rest (drop (k + 1) rows) end m)
   unfolding read_rows
   read_skip h e f = rw (here h, e, f)
 
   pub read_row : k < length rows → is_row 1 (get_or rows k []) ≡ false → is_row 2 (get_or rows k []) ≡ true
       → read_rows table d rest (drop k rows) end m
       ≡ (if eqb (row_code (row_at rows k) (part rest (begins table d rest end) (stops table d rest end))) 0
-      then read_rows table d rest (drop (k + 1) rows) (stops table d rest end) (marks_with table d rest m end) else none)
+      then read_rows table d rest (drop (k + 1) rows) (stops table d rest end) (marks_with table d rest m end) else None)
   unfolding read_rows
   read_row h e f = rw (here h, e, f)
 
-  pub read_stop : is_row 1 (get_or rows k []) ≡ true → read_rows table d rest (drop k rows) end m ≡ some end
+  pub read_stop : is_row 1 (get_or rows k []) ≡ true → read_rows table d rest (drop k rows) end m ≡ Some end
   unfolding read_rows
   read_stop e = rw (here (row_within 1 (lit< tt) rows k e), e)
 
-  pub read_end : length rows ≤ k → read_rows table d rest (drop k rows) end m ≡ some end
+  pub read_end : length rows ≤ k → read_rows table d rest (drop k rows) end m ≡ Some end
   unfolding read_rows
   read_end h = rw (drop_of_length-le rows {i = k} h)
 
@@ -84,7 +85,7 @@ pub record ReadTo (table : List Bool) (d : Delimiters) (rest : Bytes) (rows : Gu
 
 -- no row of the entry is left
 pub record Ended (rows : Guide) (k : ℕ) : Type 0 where
-  pub whole : (table : List Bool) (d : Delimiters) (rest : Bytes) (end : ℕ) (m : Marks) → read_rows table d rest (drop k rows) end m ≡ some end
+  pub whole : (table : List Bool) (d : Delimiters) (rest : Bytes) (end : ℕ) (m : Marks) → read_rows table d rest (drop k rows) end m ≡ Some end
   pub stays : next_where (is_row 1) rows k ≡ k
 
 pub ended_segment : (rows : Guide) (k : ℕ) → is_row 1 (get_or rows k []) ≡ true → Ended rows k
@@ -108,7 +109,7 @@ module _ {table : List Bool} {d : Delimiters} {rest : Bytes} {rows : Guide} {ent
       next = r.next ∙ next_later (is_row 1) rows [] k h e;
     }
 
-    pub read_broken : broken ≡ true → passed table d rest rows entry id ≡ Faulty
+    pub read_broken : broken ≡ true → passed table d rest rows entry id ≡ None
     unfolding passed
     read_broken b = rw (r.left, read_skip table d rest rows k end m h e f, ← q, b)
 
@@ -129,11 +130,20 @@ module _ {table : List Bool} {d : Delimiters} {rest : Bytes} {rows : Guide} {ent
         next = r.next ∙ next_later (is_row 1) rows [] k h e;
       }
 
-      pub read_refused : taken ≡ false → passed table d rest rows entry id ≡ Faulty
+      pub read_refused : taken ≡ false → passed table d rest rows entry id ≡ None
       unfolding passed
       read_refused t = rw (r.left, read_row table d rest rows k end m h e f, ← stopped, ← p, ← q, t)
 
+  -- past the last row of the guide, the search for the next entry has come to its end
+  pub past : length rows ≤ k → max (row_below rows entry) (length rows) ≡ k
+  past h = next_past (is_row 1) rows (row_below rows entry) (r.next ∙ next_none (is_row 1) rows [] k h) h
+
   -- after the last row: by whether the segment ends there
-  pub read_ended : Ended rows k → {over : Bool} → over ≡ is_over d.terminator rest end → passed table d rest rows entry id ≡ (if over then Clean end k else Faulty)
+  pub read_ended : Ended rows k → {next : ℕ} → next ≡ k → {over : Bool} → over ≡ is_over d.terminator rest end
+      → passed table d rest rows entry id ≡ then_some over (record { length = end; next = next })
   unfolding passed
-  read_ended o p = rw (r.left, o.whole table d rest end m, r.next, o.stays, p)
+  read_ended o e p = rw (r.left, o.whole table d rest end m, r.next, o.stays, p, e) (go (is_over d.terminator rest end))
+    where
+      go : (b : Bool) → ◌≡◌ {A = Option Passed} (if b then Some (record { length = end; next = k }) else None) (then_some b (record { length = end; next = k }))
+      go true = refl
+      go false = refl

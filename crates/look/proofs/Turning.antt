@@ -1,5 +1,5 @@
 -- Where a segment stands by a look is where it stands in the walk of a set, for an orderly table.
-use Rattle.std.specs.Prelude.{if◌then◌else◌}
+use Rattle.std.specs.Prelude.{if◌then◌else◌, is_some, Option, None, Some}
 use mathlib.Core.Path.{◌≡◌, refl, sym, ap, ◌∙◌}
 use mathlib.Core.Bool.{Bool, true, false, ◌&&◌, ◌||◌, not, true≢false, false≢true}
 use mathlib.Core.List.{List, [], ◌∷◌}
@@ -17,10 +17,8 @@ use Rattle.text.proofs.Where.{index_yes, index_no}
 use Rattle.tables.specs.Rows.{column, is_row, filled, ids_in}
 use Rattle.tables.specs.Reading.{Guide, Limits, Orderly, id_in, is_entry_row, is_mandatory_row, has_known_id, ids_differ, entry_row, next_mandatory, next_due}
 use Rattle.tables.proofs.Laws.{row_within}
-use Rattle.tables.specs.declared.Due.TheVariants as due
 use Rattle.findings.specs.Steps.{bumped, compared, stands, next_missing}
-use Rattle.findings.specs.Turns.{Noted, Quiet, is_missing, used_again, turn_by, turn_of}
-use Rattle.findings.specs.declared.Missing.TheVariants.{Row, Nothing}
+use Rattle.findings.specs.Turns.{Noted, Quiet, used_again, turn_by, turn_of}
 use Rattle.findings.specs.declared.Present.{Present}
 use Rattle.findings.specs.declared.Standing.TheVariants.{Unknown, Unlisted, Before, Again, Later}
 use Rattle.findings.specs.Turns as walk
@@ -28,7 +26,6 @@ use Rattle.findings.proofs.Linked.{bumped_low}
 use Rattle.look.specs.Looking.{again_at, due_at, turn_on}
 use Rattle.look.specs.declared.Course.{Course}
 use Rattle.look.specs.declared.Turn.{Turn}
-use Rattle.look.specs.declared.Turn.TheVariants.{At, Odd}
 
 -- 1. What a search finds passes, and nothing before it does.
 module _ {A : Type 0} (p : A → Bool) (o : A) where
@@ -116,9 +113,9 @@ entry_known ids rows id k known e =
 
 -- 3. One segment.
 -- what the walk says where a look says this
-abbrev pub meant : Turn → walk.Turn
-meant Odd = Noted
-meant (At k uses) = Quiet k uses
+abbrev pub meant : Option Turn → walk.Turn
+meant None = Noted
+meant (Some t) = Quiet t.row t.used
 
 -- The course stands at an entry, its next row is that of the entry after it, and each use has taken a byte.
 pub record Keeps (rows : Guide) (c : Course) : Type 0 where
@@ -132,12 +129,12 @@ module _ (ids : List (List ℕ)) (rows : Guide) (limits : Limits rows) (orderly 
   p = record { row = c.row; used = c.used }
 
   -- where a segment stands is an entry, and it is used at most once more
-  abbrev Stays : Turn → Type 0
-  Stays Odd = Unit {0}
-  Stays (At k uses) = (is_row 1 (get_or rows k []) ≡ true) × (uses ≤ c.used + 1)
+  abbrev Stays : Option Turn → Type 0
+  Stays None = Unit {0}
+  Stays (Some t) = (is_row 1 (get_or rows t.row []) ≡ true) × (t.used ≤ c.used + 1)
 
   -- the walk says the same
-  abbrev pub Agrees : Turn → Type 0
+  abbrev pub Agrees : Option Turn → Type 0
   Agrees t = (turn_of ids rows p id ≡ meant t) × Stays t
 
   within : c.row < length rows
@@ -161,8 +158,8 @@ module _ (ids : List (List ℕ)) (rows : Guide) (limits : Limits rows) (orderly 
       most = column (get_or rows c.row []) 5
 
       go : (b : Bool) → leb most c.used ≡ b
-          → (used_again rows c.row (c.used + 1) ≡ meant (if b then Odd else At c.row (c.used + 1)))
-          × Stays (if b then Odd else At c.row (c.used + 1))
+          → (used_again rows c.row (c.used + 1) ≡ meant (if b then None else Some (record { row = c.row; used = c.used + 1 })))
+          × Stays (if b then None else Some (record { row = c.row; used = c.used + 1 }))
       go true h = (rw (lt-ltb most (c.used + 1) (omega (arith, leb-true most c.used h))), tt)
       go false h = (rw (le-ltb most (c.used + 1) (omega (arith, leb-false most c.used h))), (keeps.entry, omega arith))
 
@@ -178,14 +175,14 @@ module _ (ids : List (List ℕ)) (rows : Guide) (limits : Limits rows) (orderly 
   not_before k l e = rw keeps.onward (next_first (is_row 1) [] rows (c.row + 1) k (omega arith) e)
 
   -- where the search stops at the id, no mandatory segment is passed over; where it does not, one is
-  none_missing : is_entry_row id (get_or rows m []) ≡ true → next_missing rows (c.row + 1) m ≡ Nothing
+  none_missing : is_entry_row id (get_or rows m []) ≡ true → next_missing rows (c.row + 1) m ≡ None
   unfolding next_missing next_mandatory
   none_missing e = go (ltb q m) refl
     where
       q : ℕ
       q = next_where is_mandatory_row (take m rows) (c.row + 1)
 
-      go : (b : Bool) → ltb q m ≡ b → (if b && ltb q (length rows) then Row q else Nothing) ≡ Nothing
+      go : (b : Bool) → ltb q m ≡ b → (if b && ltb q (length rows) then Some q else None) ≡ None
       go false h = refl
       go true h =
           let low = ltb-true q m h in
@@ -197,7 +194,7 @@ module _ (ids : List (List ℕ)) (rows : Guide) (limits : Limits rows) (orderly 
           absurd (true≢false (sym mandatory ∙ passed))
 
   one_missing : is_entry_row id (get_or rows m []) ≡ false → (k : ℕ) → c.row < k → is_entry_row id (get_or rows k []) ≡ true
-      → is_missing (next_missing rows (c.row + 1) k) ≡ true
+      → is_some (next_missing rows (c.row + 1) k) ≡ true
   unfolding next_missing next_mandatory
   one_missing other k l e =
       let short = entry_within id rows k e in
@@ -228,7 +225,7 @@ module _ (ids : List (List ℕ)) (rows : Guide) (limits : Limits rows) (orderly 
           let z : k ≡ c.row = omega (arith, ltb-false k c.row u, ltb-false c.row k v) in
           absurd (true≢false (sym (rw z at (next_found (is_entry_row id) [] rows 0 (ltb-true k (length rows) g))) ∙ other))
 
-  at_due : is_entry_row id (get_or rows m []) ≡ true → Agrees (At m 1)
+  at_due : is_entry_row id (get_or rows m []) ≡ true → Agrees (Some (record { row = m; used = 1 }))
   unfolding turn_of
   at_due f =
       let below : c.row < m = omega (arith, keeps.onward) in (
@@ -236,10 +233,10 @@ module _ (ids : List (List ℕ)) (rows : Guide) (limits : Limits rows) (orderly 
         (and_left (is_row 1 (get_or rows m [])) _ f, omega arith),
       )
 
-  not_due : is_entry_row id (get_or rows m []) ≡ false → Agrees (due_at rows c id due.Nothing)
+  not_due : is_entry_row id (get_or rows m []) ≡ false → Agrees (due_at rows c id None)
   not_due f = go (is_entry_row id (get_or rows c.row [])) refl
     where
-      go : (b : Bool) → is_entry_row id (get_or rows c.row []) ≡ b → Agrees (if b then again_at rows c else Odd)
+      go : (b : Bool) → is_entry_row id (get_or rows c.row []) ≡ b → Agrees (if b then again_at rows c else None)
       go true e = at_present e
       go false e = (none_due e f, tt)
 
@@ -248,6 +245,6 @@ module _ (ids : List (List ℕ)) (rows : Guide) (limits : Limits rows) (orderly 
   unfolding turn_on next_due
   turn_agrees = go (is_entry_row id (get_or rows m [])) refl
     where
-      go : (b : Bool) → is_entry_row id (get_or rows m []) ≡ b → Agrees (due_at rows c id (if b then due.Row m else due.Nothing))
+      go : (b : Bool) → is_entry_row id (get_or rows m []) ≡ b → Agrees (due_at rows c id (if b then Some m else None))
       go true f = at_due f
       go false f = not_due f

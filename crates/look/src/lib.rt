@@ -5,28 +5,17 @@ ghost use Rattle.look.specs.Bytes.{valid_bytes};
 ghost use Rattle.look.specs.Looking.{again_at, turn_on, afterward, step_at, look_from, looked};
 
 use rules::Delimiters;
-use segment::Passed;
 use sets::SetAt;
-use tables::Due;
 
 mod segment;
-
-// What a look comes to: a set with a trailer, of which nothing is told, by its place; or any other set.
-#[derive(Clone, Copy)]
-pub enum Look {
-    Quiet(SetAt),
-    Odd,
-}
 
 // Which bytes are valid between these delimiters, one answer for each of the 256.
 pub fn valid_bytes(d: Delimiters) -> [bool; 256]
     ensures { result ≡ valid_bytes d }
 {
-    let mut valid: [bool; 256] = [false; 256];
-    let mut b: usize = 0;
-    while b < 256 {
+    let mut valid = [false; 256];
+    for b in 0..256 {
         valid[b] = text::is_valid(b as u8, d);
-        b += 1;
     }
     valid
 }
@@ -42,91 +31,86 @@ struct Course {
     segments: usize,
 }
 
-// Where a segment stands that is not told: the row of its entry, and how often that is used with it.
+// Where a segment stands of which nothing is told: the row of its entry, and how often that is used with it.
 #[derive(Clone, Copy)]
-enum Turn {
-    At(usize, usize),
-    Odd,
+struct Turn {
+    row: usize,
+    used: usize,
 }
 
-// What a segment comes to: the look goes on, or the set ends with its trailer, or something is told.
+// What a segment comes to of which nothing is told: the look goes on, or the set ends with its trailer.
 #[derive(Clone, Copy)]
 enum Step {
     On(Course),
     Closed(usize),
-    Odd,
 }
 
 // One more use of the present entry.
-fn again(guide: &[[u16; 6]], c: Course) -> Turn
+fn again(guide: &[[u16; 6]], c: Course) -> Option<Turn>
     ensures { result ≡ again_at guide.now c }
 {
     if tables::most_uses(guide, c.row) <= c.used {
-        return Turn::Odd;
+        return None;
     }
-    Turn::At(c.row, c.used + 1)
+    Some(Turn {
+        row: c.row,
+        used: c.used + 1,
+    })
 }
 
 // Where a segment with this id stands. Most are due, so that is asked before whether one more use is made of the present entry.
-fn turn_on(id: &[u8], guide: &[[u16; 6]], c: Course) -> Turn
+fn turn_on(id: &[u8], guide: &[[u16; 6]], c: Course) -> Option<Turn>
     ensures { result ≡ turn_on guide.now c id.now }
 {
     match tables::next_due(guide, c.next, id) {
-        Due::Row(k) => Turn::At(k, 1),
-        Due::Nothing => {
-            if tables::is_entry(guide, c.row, id) {
-                return again(guide, c);
-            }
-            Turn::Odd
-        }
+        Some(row) => Some(Turn { row, used: 1 }),
+        None if tables::is_entry(guide, c.row, id) => again(guide, c),
+        None => None,
     }
 }
 
 // Where a look comes to after a segment with this id, which the cursor stands behind: SE closes the set, ST opens another.
-fn after(id: &[u8], c: Course) -> Step
+fn after(id: &[u8], c: Course) -> Option<Step>
     ensures { result ≡ afterward id.now c }
 {
     if text::same_bytes(id, &rules::SE) {
-        return Step::Closed(c.at);
+        return Some(Step::Closed(c.at));
     }
     if text::same_bytes(id, &rules::ST) {
-        return Step::Odd;
+        return None;
     }
-    Step::On(c)
+    Some(Step::On(c))
 }
 
 // The next segment.
-fn go_on(body: &[u8], d: Delimiters, valid: &[bool; 256], guide: &[[u16; 6]], c: Course) -> Step
+fn go_on(
+    body: &[u8],
+    d: Delimiters,
+    valid: &[bool; 256],
+    guide: &[[u16; 6]],
+    c: Course,
+) -> Option<Step>
     requires { c.segments ≤ c.at }
     ensures { result ≡ step_at valid.now d guide.now body.now c }
 {
     if body.len() <= c.at {
-        return Step::Odd;
+        return None;
     }
-    let at = c.at;
-    let rest = &body[at..];
+    let rest = &body[c.at..];
     let end = segment::id_end(rest, d);
     let id = &rest[..end];
-    match turn_on(id, guide, c) {
-        Turn::Odd => Step::Odd,
-        Turn::At(row, used) => {
-            match segment::pass(rest, end, d, valid, guide, row) {
-                Passed::Faulty => Step::Odd,
-                Passed::Clean(length, next) => {
-                    after(
-                        id,
-                        Course {
-                            at: c.at + length + 1,
-                            row,
-                            used,
-                            next,
-                            segments: c.segments + 1,
-                        },
-                    )
-                }
-            }
-        }
-    }
+    let turn = turn_on(id, guide, c)?;
+    let passed = segment::pass(rest, end, d, valid, guide, turn.row)?;
+    after(
+        id,
+        Course {
+            at: c.at + passed.length + 1,
+            row: turn.row,
+            used: turn.used,
+            next: passed.next,
+            segments: c.segments + 1,
+        },
+    )
 }
 
 // The segments after the header, which goes from `at` to `header`.
@@ -138,7 +122,7 @@ fn look_on(
     at: usize,
     header: usize,
     next: usize,
-) -> Look
+) -> Option<SetAt>
     requires { header ≤ length body.now }
     ensures { result ≡ look_from valid.now d guide.now body.now at header (length body.now) (record { at = header + 1; row = 0; used = 1; next = next; segments = 1 }) }
 {
@@ -150,12 +134,10 @@ fn look_on(
         segments: 1,
     };
     loop {
-        match go_on(body, d, valid, guide, c) {
-            Step::On(further) => {
-                c = further;
-            }
+        match go_on(body, d, valid, guide, c)? {
+            Step::On(further) => c = further,
             Step::Closed(end) => {
-                return Look::Quiet(SetAt {
+                return Some(SetAt {
                     start: at,
                     header,
                     trailer: c.at,
@@ -164,29 +146,24 @@ fn look_on(
                     segments: c.segments + 1,
                 });
             }
-            Step::Odd => {
-                return Look::Odd;
-            }
         }
     }
 }
 
-// The set whose header starts at `at`.
+// The place of the set whose header starts at `at`, where it has a trailer and nothing is told of it.
 pub fn look_at(
     body: &[u8],
     d: Delimiters,
     valid: &[bool; 256],
     guide: &[[u16; 6]],
     at: usize,
-) -> Look
+) -> Option<SetAt>
     ensures { result ≡ looked valid.now d guide.now body.now at }
 {
     if body.len() <= at {
-        return Look::Odd;
+        return None;
     }
     let rest = &body[at..];
-    match segment::pass(rest, segment::id_end(rest, d), d, valid, guide, 0) {
-        Passed::Faulty => Look::Odd,
-        Passed::Clean(length, next) => look_on(body, d, valid, guide, at, at + length, next),
-    }
+    let passed = segment::pass(rest, segment::id_end(rest, d), d, valid, guide, 0)?;
+    look_on(body, d, valid, guide, at, at + passed.length, passed.next)
 }

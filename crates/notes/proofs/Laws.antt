@@ -1,7 +1,8 @@
 -- What is told of a segment and of a place: its id in bytes, its codes one by one, its findings.
-use Rattle.std.specs.Prelude.{if◌then◌else◌}
+use Rattle.std.specs.Prelude.{if◌then◌else◌, Option, Some, None, is_some}
+use Rattle.std.specs.Bool.{then_some}
 use mathlib.Core.Path.{◌≡◌, refl, sym, ◌∙◌, ap}
-use mathlib.Core.Bool.{Bool, true, false, ◌&&◌, not, true≢false}
+use mathlib.Core.Bool.{Bool, true, false, ◌&&◌, ◌||◌, not, true≢false}
 use mathlib.Core.List.{List, [], ◌∷◌, ◌++◌, map, map-append}
 use Prim.Native.Nat.{ℕ, zero, suc, ◌+◌, ◌<◌, ◌≤◌, min, max}
 use native.Mathlib.Nat.{zero-add}
@@ -11,12 +12,16 @@ use lib.Dec.{eqb}
 use lib.ListN.{length, take, get_or}
 use lib.Seq.{slice}
 use Rattle.rules.specs.Base.{Bytes, ◌⇒◌, ascii, null, all, between, is_upper_or_digit, every}
+use Rattle.rules.specs.Codes.{segment_number}
 use Rattle.rules.specs.Cutting.{field, split}
 use Rattle.rules.specs.Elements.{Finding, findings}
 use Rattle.rules.specs.Numbers.{decimal}
 use Rattle.rules.specs.Response.{ak4}
 use Rattle.rules.specs.Segments.{echoed}
 use Rattle.rules.specs.declared.Delimiters.{Delimiters}
+use Rattle.rules.specs.declared.SegmentCode.{SegmentCode}
+use Rattle.rules.specs.declared.SegmentCode.TheVariants as code
+use Rattle.rules.proofs.Codes.{segment_some}
 use Rattle.rules.proofs.Logic.{and_left, and_right, all_head, all_tail}
 use Rattle.text.specs.Text.{index_of, part}
 use Rattle.text.proofs.Digits.{between_true}
@@ -25,21 +30,17 @@ use Rattle.tables.specs.Rows.{filled}
 use Rattle.tables.specs.Reading.{Guide, entry_at, id_at, id_bytes}
 use Rattle.tables.specs.declared.SegmentId.{SegmentId}
 use Rattle.tables.proofs.Numbers.{filled_take}
-use Rattle.elements.specs.Checks.{is_some, finding_in, finding_by, findings_at, next_found, findings_left, findings_from, start}
-use Rattle.elements.specs.declared.Cursor.{Cursor}
+use Rattle.elements.specs.Checks.{finding_in, finding_by, findings_at, next_found, findings_left, findings_from, start}
 use Rattle.elements.specs.declared.Found.{Found}
-use Rattle.elements.specs.declared.Found.TheVariants.{Codes, Nothing}
 use Rattle.elements.specs.declared.PlaceCodes.{PlaceCodes}
 use Rattle.elements.proofs.Checks.{left_is, left_fewer, left_none, left_start}
 use Rattle.findings.specs.Events.{Event, Line, written}
 use Rattle.findings.specs.Steps.{codes_of, is_checked, next_missing}
 use Rattle.findings.specs.Remaining.{missing_in, passed_events, lined, checked, segment_events, taken_events}
-use Rattle.findings.specs.declared.Missing.TheVariants.{Row}
-use Rattle.findings.specs.declared.Missing.TheVariants as miss
 use Rattle.findings.specs.declared.Taken.{Taken}
 use Rattle.findings.proofs.Search.{missed_by, miss_law}
 use Rattle.findings.proofs.Told.{elements_written}
-use Rattle.notes.specs.Lines.{echoed_id, finding_of, found_by}
+use Rattle.notes.specs.Lines.{echoed_id, code_of, finding_of, found_by}
 
 -- 1. An id by value.
 plain_some : (b : ℕ) → is_upper_or_digit b ≡ true → eqb b 0 ≡ false
@@ -85,32 +86,37 @@ unfolding id_bytes
 id_is i end e = ap (λ (n : ℕ). take n (three_of i)) (e ∙ zero-add (index_of 0 (three_of i))) ∙ filled_take (three_of i)
 
 -- 2. The codes of a segment.
-pub codes_two : (b c : Bool) (m n : ℕ)
-    → map decimal (every ((b ⇒ m) ∷ (c ⇒ n) ∷ [])) ≡ map decimal (every ((b ⇒ m) ∷ [])) ++ map decimal (every ((c ⇒ n) ∷ []))
+pub codes_two : (own : Option SegmentCode) (faulty : Bool)
+    → map decimal (codes_of own faulty) ≡ map decimal (code_of own) ++ map decimal (code_of (then_some faulty code.HasFindings))
 unfolding every
-codes_two true c m n = refl
-codes_two false c m n = refl
+codes_two None true = refl
+codes_two None false = refl
+codes_two (Some c) faulty = rw (← segment_some (Some c)) (go faulty)
+  where
+    go : (b : Bool) → map decimal (segment_number (Some c) ∷ every ((b ⇒ 8) ∷ [])) ≡ decimal (segment_number (Some c)) ∷ map decimal (code_of (then_some b code.HasFindings))
+    go true = refl
+    go false = refl
 
 -- without a code there is no line
-module _ (id : Bytes) (n own : ℕ) (faulty : Bool) where
-  pub lined_none : eqb own 0 && not faulty ≡ true → lined id n (codes_of own faulty) ≡ []
+module _ (id : Bytes) (n : ℕ) (own : Option SegmentCode) (faulty : Bool) where
+  pub lined_none : is_some own || faulty ≡ false → lined id n (codes_of own faulty) ≡ []
   unfolding every
-  lined_none e = go (eqb own 0) faulty e
+  lined_none e = rw (← segment_some own) (go (is_some own) faulty e)
     where
-      go : (a b : Bool) → a && not b ≡ true → lined id n (every ((not a ⇒ own) ∷ (b ⇒ 8) ∷ [])) ≡ []
-      go true false q = refl
-      go true true q = absurd (true≢false (sym q))
-      go false b q = absurd (true≢false (sym q))
+      go : (a b : Bool) → a || b ≡ false → lined id n (every ((a ⇒ segment_number own) ∷ (b ⇒ 8) ∷ [])) ≡ []
+      go false false q = refl
+      go false true q = absurd (true≢false q)
+      go true b q = absurd (true≢false q)
 
-  pub lined_some : eqb own 0 && not faulty ≡ false → lined id n (codes_of own faulty) ≡ Line id n (codes_of own faulty) ∷ []
+  pub lined_some : is_some own || faulty ≡ true → lined id n (codes_of own faulty) ≡ Line id n (codes_of own faulty) ∷ []
   unfolding every
-  lined_some e = go (eqb own 0) faulty e
+  lined_some e = rw (← segment_some own) (go (is_some own) faulty e)
     where
-      go : (a b : Bool) → a && not b ≡ false
-          → lined id n (every ((not a ⇒ own) ∷ (b ⇒ 8) ∷ [])) ≡ Line id n (every ((not a ⇒ own) ∷ (b ⇒ 8) ∷ [])) ∷ []
-      go true true q = refl
-      go true false q = absurd (true≢false q)
-      go false b q = refl
+      go : (a b : Bool) → a || b ≡ true
+          → lined id n (every ((a ⇒ segment_number own) ∷ (b ⇒ 8) ∷ [])) ≡ Line id n (every ((a ⇒ segment_number own) ∷ (b ⇒ 8) ∷ [])) ∷ []
+      go false true q = refl
+      go false false q = absurd (true≢false (sym q))
+      go true b q = refl
 
 -- 3. The findings of a place, one by one, the lower code first.
 pub findings_two : (s : Bytes) (p : PlaceCodes)
@@ -139,28 +145,28 @@ findings_two s p = go (eqb lower 0) (eqb higher 0)
 -- 4. The findings of a segment.
 module _ (d : Delimiters) (s : Bytes) (rows : Guide) where
   -- how many are left at most, with one more for what is found
-  abbrev pub weight : Found → ℕ
-  weight (Codes p c) = suc (length (findings_left d s rows c))
-  weight Nothing = 0
+  abbrev pub weight : Option Found → ℕ
+  weight (Some f) = suc (length (findings_left d s rows f.next))
+  weight None = 0
 
-  pub weight_less : {f : Found} {p : PlaceCodes} {c : Cursor} → f ≡ Codes p c → weight (next_found d s rows c) < weight f
-  weight_less {f} {p} {c} e = rw e (go (next_found d s rows c) refl)
+  pub weight_less : {o : Option Found} {f : Found} → o ≡ Some f → weight (next_found d s rows f.next) < weight o
+  weight_less {o} {f} e = rw e (go (next_found d s rows f.next) refl)
     where
-      go : (g : Found) → next_found d s rows c ≡ g → weight g < suc (length (findings_left d s rows c))
-      go (Codes q v) h = omega (arith, left_fewer d s rows c h)
-      go Nothing h = omega arith
+      go : (g : Option Found) → next_found d s rows f.next ≡ g → weight g < suc (length (findings_left d s rows f.next))
+      go (Some h) q = omega (arith, left_fewer d s rows f.next q)
+      go None q = omega arith
 
   -- those of the place that is found, and then the rest
-  pub found_more : {f : Found} {p : PlaceCodes} {c : Cursor} → f ≡ Codes p c
-      → map ak4 (findings_from d s rows f) ≡ map ak4 (findings_at s p) ++ map ak4 (findings_from d s rows (next_found d s rows c))
-  found_more {f} {p} {c} e = rw (e, left_is d s rows c) (map-append ak4 (findings_at s p) _)
+  pub found_more : {o : Option Found} {f : Found} → o ≡ Some f
+      → map ak4 (findings_from d s rows o) ≡ map ak4 (findings_at s f.codes) ++ map ak4 (findings_from d s rows (next_found d s rows f.next))
+  found_more {o} {f} e = rw (e, left_is d s rows f.next) (map-append ak4 (findings_at s f.codes) _)
 
-  module _ (own check : ℕ) (small : length rows < 9223372036854775808) where
+  module _ (own : Option SegmentCode) (check : ℕ) (small : length rows < 9223372036854775808) where
     pub found_all : findings_from d s rows (found_by d s rows own check) ≡ checked d rows own check (split d.element s)
     unfolding found_by
     found_all = go (is_checked own)
       where
-        go : (b : Bool) → findings_from d s rows (if b then next_found d s rows (start d s rows check) else Nothing)
+        go : (b : Bool) → findings_from d s rows (if b then next_found d s rows (start d s rows check) else None)
             ≡ (if b then findings d (entry_at rows check) (split d.element s) else [])
         go true = sym (left_is d s rows (start d s rows check)) ∙ left_start d s rows check small
         go false = refl
@@ -175,7 +181,7 @@ module _ (d : Delimiters) (s : Bytes) (rows : Guide) where
         some false true e = refl
         some false false e = absurd (true≢false (sym e))
 
-        go : (b : Bool) → is_some (if b then next_found d s rows (start d s rows check) else Nothing)
+        go : (b : Bool) → is_some (if b then next_found d s rows (start d s rows check) else None)
             ≡ not (null (if b then findings d (entry_at rows check) (split d.element s) else []))
         go true =
             some (null (findings d (entry_at rows check) (split d.element s))) (is_some (next_found d s rows (start d s rows check)))
@@ -198,13 +204,13 @@ module _ (n : ℕ) (rows : Guide) (k e : ℕ) where
   abbrev left : ℕ → List Event
   left i = missing_in n (slice i e rows)
 
-  pub missing_more : {m : ℕ} → next_missing rows k e ≡ Row m
-      → map written (left k) ≡ written (Line (id_bytes (id_at rows m)) n (codes_of 3 false)) ∷ [] ++ map written (left (m + 1))
+  pub missing_more : {m : ℕ} → next_missing rows k e ≡ Some m
+      → map written (left k) ≡ written (Line (id_bytes (id_at rows m)) n (codes_of (Some code.Missing) false)) ∷ [] ++ map written (left (m + 1))
   unfolding every
   missing_more h = ap (map written) (miss_law n rows k e ∙ ap (missed_by n rows e) h)
 
-  pub missing_fewer : {m : ℕ} → next_missing rows k e ≡ Row m → length (left (m + 1)) < length (left k)
+  pub missing_fewer : {m : ℕ} → next_missing rows k e ≡ Some m → length (left (m + 1)) < length (left k)
   missing_fewer h = omega (arith, ap length (miss_law n rows k e ∙ ap (missed_by n rows e) h))
 
-  pub missing_none : next_missing rows k e ≡ miss.Nothing → map written (left k) ≡ []
+  pub missing_none : next_missing rows k e ≡ None → map written (left k) ≡ []
   missing_none h = ap (map written) (miss_law n rows k e ∙ ap (missed_by n rows e) h)

@@ -1,7 +1,7 @@
 #![tactic(auto)]
 // The notes of a set, written: an AK3 for each segment that is told, and an AK4 for each finding.
 ghost use Rattle.std.specs.Prelude.{◌≡◌, ◌&&◌, [], ◌∷◌, map, ◌+◌, length, get_or};
-ghost use Rattle.rules.specs.Base.{every, ◌⇒◌, all, between, is_upper_or_digit};
+ghost use Rattle.rules.specs.Base.{all, between, is_upper_or_digit};
 ghost use Rattle.rules.specs.Cutting.{field, split};
 ghost use Rattle.rules.specs.Numbers.{decimal};
 ghost use Rattle.rules.specs.Response.{fields_out, segment_out, ak4};
@@ -11,61 +11,48 @@ ghost use Rattle.elements.specs.Checks.{finding_in, findings_at, findings_from};
 ghost use Rattle.findings.specs.Events as events;
 ghost use Rattle.findings.specs.Remaining as rest;
 ghost use Rattle.findings.specs.Steps.{codes_of, is_checked, start};
-ghost use Rattle.notes.specs.Lines.{echoed_id, absent, finding_of, found_by};
+ghost use Rattle.notes.specs.Lines.{echoed_id, absent, code_of, finding_of, found_by};
 ghost use Rattle.notes.specs.Saying.{Adds, Tells};
 ghost use Rattle.writing.specs.Over.{sat, From};
 
 use elements::{Found, PlaceCodes};
-use findings::{Missing, Passed, Step, Taken};
+use findings::{Passed, Step, Taken};
 use rules::{Delimiters, Finding, SegmentCode};
 use tables::SegmentId;
+use writing::{Number, add, add_field, add_optional, add_trailing};
 
-// What is told of one segment, an AK3: its codes are its own, where that is not 0, and 8, where it is faulty.
+// What is told of one segment, an AK3: its codes are its own, where it has one, and 8, where it is faulty.
 #[derive(Clone, Copy)]
 struct Line {
     id: SegmentId,
     position: usize,
-    own: u8,
+    own: Option<SegmentCode>,
     faulty: bool,
 }
 
+// The byte at a place, 0 past the end. One expression of the library, as in `isa`: a shared function would be no shorter, with a promise of its own.
 fn byte_at(s: &[u8], i: usize) -> u8
     ensures { result ≡ get_or s.now i 0 }
 {
-    if i < s.len() {
-        return s[i];
-    }
-    0
+    s.get(i).copied().unwrap_or(0)
 }
 
 // Two or three uppercase letters or digits: an id that is echoed as it is.
 fn is_id(s: &[u8]) -> bool
     ensures { result ≡ (between 2 3 (length s.now) && all is_upper_or_digit s.now) }
 {
-    if s.len() < 2 {
-        return false;
-    }
-    if 3 < s.len() {
-        return false;
-    }
-    text::is_name(s)
+    (2..=3).contains(&s.len()) && text::is_name(s)
 }
 
 // The id that is echoed, `ZZZ` for what is none.
 fn echoed_id(id: &[u8]) -> SegmentId
     ensures { result ≡ echoed_id id.now }
 {
-    if is_id(id) {
-        return SegmentId {
-            first: byte_at(id, 0),
-            second: byte_at(id, 1),
-            third: byte_at(id, 2),
-        };
-    }
+    let shown = if is_id(id) { id } else { b"ZZZ" };
     SegmentId {
-        first: b'Z',
-        second: b'Z',
-        third: b'Z',
+        first: byte_at(shown, 0),
+        second: byte_at(shown, 1),
+        third: byte_at(shown, 2),
     }
 }
 
@@ -76,16 +63,16 @@ fn absent(guide: &[[u16; 6]], k: usize, position: usize) -> Line
     Line {
         id: tables::id_at(guide, k),
         position,
-        own: SegmentCode::MISSING,
+        own: Some(SegmentCode::Missing),
         faulty: false,
     }
 }
 
 // A segment with this code has its elements checked.
-fn is_checked(own: u8) -> bool
+fn is_checked(own: Option<SegmentCode>) -> bool
     ensures { result ≡ is_checked own }
 {
-    own != SegmentCode::NOT_KNOWN && own != SegmentCode::NOT_IN_TABLE
+    !matches!(own, Some(SegmentCode::NotKnown | SegmentCode::NotInTable))
 }
 
 // A segment's id as an element.
@@ -94,43 +81,43 @@ fn add_id(out: &mut [u8], n: usize, d: Delimiters, id: SegmentId) -> usize
 {
     let bytes = [id.first, id.second, id.third];
     let end = text::find(&bytes, 0, 0);
-    writing::add_field(out, n, d, &bytes[..end])
+    add_field(out, n, d, &bytes[..end])
 }
 
-// A code as an element, where it applies.
-fn add_code(out: &mut [u8], n: usize, d: Delimiters, applies: bool, code: u8) -> usize
-    ensures { From n (fields_out d (map decimal (every ((applies ⇒ code) ∷ [])))) result out.old out.new }
+// A code as an element, where there is one.
+fn add_code(out: &mut [u8], n: usize, d: Delimiters, code: Option<SegmentCode>) -> usize
+    ensures { From n (fields_out d (map decimal (code_of code))) result out.old out.new }
 {
-    if applies {
-        return writing::add_count(out, n, d, code as u64);
+    match code {
+        Some(code) => add_field(out, n, d, Number(code as u64)),
+        None => n,
     }
-    n
 }
 
 // AK3: id, position, nothing, codes.
 fn add_ak3(out: &mut [u8], n: usize, d: Delimiters, l: Line) -> usize
     ensures { From n (segment_out d (events.written (events.Line (id_bytes l.id) l.position (codes_of l.own l.faulty)))) result out.old out.new }
 {
-    let n = writing::add_bytes(out, n, &rules::AK3);
+    let n = add(out, n, &rules::AK3);
     let n = add_id(out, n, d, l.id);
-    let n = writing::add_count(out, n, d, l.position as u64);
-    let n = writing::add_optional(out, n, d, 0);
-    let n = add_code(out, n, d, l.own != 0, l.own);
-    let n = add_code(out, n, d, l.faulty, SegmentCode::HAS_FINDINGS);
-    writing::add_byte(out, n, d.terminator)
+    let n = add_field(out, n, d, Number(l.position as u64));
+    let n = add_optional(out, n, d, 0);
+    let n = add_code(out, n, d, l.own);
+    let n = add_code(out, n, d, l.faulty.then_some(SegmentCode::HasFindings));
+    add(out, n, d.terminator)
 }
 
 // AK4 of a finding in a segment: place, reference number, code and echo.
 fn add_ak4(out: &mut [u8], n: usize, s: &[u8], d: Delimiters, f: Finding) -> usize
     ensures { From n (segment_out d (ak4 (finding_in s.now f))) result out.old out.new }
 {
-    let n = writing::add_bytes(out, n, &rules::AK4);
-    let n = writing::add_count(out, n, d, f.place as u64);
-    let n = writing::add_optional(out, n, d, f.reference as u64);
-    let n = writing::add_count(out, n, d, f.code as u64);
+    let n = add(out, n, &rules::AK4);
+    let n = add_field(out, n, d, Number(f.place as u64));
+    let n = add_optional(out, n, d, f.reference as u64);
+    let n = add_field(out, n, d, Number(f.code as u64));
     let echo = text::part(s, f.echo.start, f.echo.end);
-    let n = writing::add_trailing(out, n, d, echo);
-    writing::add_byte(out, n, d.terminator)
+    let n = add_trailing(out, n, d, echo);
+    add(out, n, d.terminator)
 }
 
 // What was written of a list of segments: the length of their text, and how many they are.
@@ -146,7 +133,7 @@ fn one_more(told: Told, n: usize) -> Told
 {
     Told {
         length: n,
-        segments: writing::joined(told.segments, 1),
+        segments: told.segments.saturating_add(1),
     }
 }
 
@@ -168,18 +155,12 @@ fn add_missing(
     ensures { Adds d (map events.written (rest.passed_events guide.now passed)) told result out.old out.new }
 {
     let mut sum = told;
-    let mut k = passed.from;
-    loop {
-        match findings::next_missing(guide, k, passed.end) {
-            Missing::Row(row) => {
-                sum = add_line(out, sum, d, absent(guide, row, passed.position));
-                k = row + 1;
-            }
-            Missing::Nothing => {
-                return sum;
-            }
-        }
+    let mut from = passed.from;
+    while let Some(row) = findings::next_missing(guide, from, passed.end) {
+        sum = add_line(out, sum, d, absent(guide, row, passed.position));
+        from = row + 1;
     }
+    sum
 }
 
 // The AK3 of a segment, where it has a code.
@@ -193,7 +174,7 @@ fn add_segment_line(
 ) -> Told
     ensures { Adds d (map events.written (rest.lined (echoed (field (split d.element s.now) 0)) taken.passed.position (codes_of taken.own faulty))) told result out.old out.new }
 {
-    if (taken.own == 0) & !faulty {
+    if taken.own.is_none() && !faulty {
         return told;
     }
     let line = Line {
@@ -230,33 +211,34 @@ fn add_findings(
     s: &[u8],
     d: Delimiters,
     guide: &[[u16; 6]],
-    found: Found,
+    found: Option<Found>,
 ) -> Told
     ensures { Adds d (map ak4 (findings_from d s.now guide.now found)) told result out.old out.new }
 {
     let mut sum = told;
-    let mut next = found;
-    loop {
-        match next {
-            Found::Codes(codes, cursor) => {
-                sum = add_codes(out, sum, s, d, codes);
-                next = elements::next_found(s, d, guide, cursor);
-            }
-            Found::Nothing => {
-                return sum;
-            }
-        }
+    let mut rest = found;
+    while let Some(Found { codes, next }) = rest {
+        sum = add_codes(out, sum, s, d, codes);
+        rest = elements::next_found(s, d, guide, next);
     }
+    sum
 }
 
 // What is found first in a segment with this code, by the entry of row `check`.
-fn found_in(s: &[u8], d: Delimiters, guide: &[[u16; 6]], own: u8, check: usize) -> Found
+fn found_in(
+    s: &[u8],
+    d: Delimiters,
+    guide: &[[u16; 6]],
+    own: Option<SegmentCode>,
+    check: usize,
+) -> Option<Found>
     ensures { result ≡ found_by d s.now guide.now own check }
 {
     if is_checked(own) {
-        return elements::first_found(s, d, guide, check);
+        elements::first_found(s, d, guide, check)
+    } else {
+        None
     }
-    Found::Nothing
 }
 
 // What a segment passes over, its own AK3, and its findings.
@@ -270,10 +252,9 @@ fn add_segment(
 ) -> Told
     ensures { Adds d (map events.written (rest.taken_events d guide.now set.now taken)) told result out.old out.new }
 {
-    let passed = taken.passed;
     let s = text::part(set, taken.start, taken.end);
     let found = found_in(s, d, guide, taken.own, taken.check);
-    let told = add_missing(out, told, d, guide, passed);
+    let told = add_missing(out, told, d, guide, taken.passed);
     let told = add_segment_line(out, told, s, d, taken, found.is_some());
     add_findings(out, told, s, d, guide, found)
 }

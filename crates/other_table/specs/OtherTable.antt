@@ -1,5 +1,5 @@
 -- A table of a test's own, and the notes of a set by it. Its segment T1 has elements of all types, and in it code 10 meets every code of a value.
-use Rattle.std.specs.Prelude.{true, List, [], ◌∷◌}
+use Rattle.std.specs.Prelude.{true, List, [], ◌∷◌, Some}
 use Rattle.rules.specs.Base.{Bytes, ascii}
 use Rattle.rules.specs.Cutting.{Segment, segments}
 use Rattle.rules.specs.Tables.{Row, Syntax, Table, M, O, row, entry, syntax, st_rows, se_rows}
@@ -8,7 +8,6 @@ use Rattle.rules.specs.Response.{out, ak3s}
 use Rattle.rules.specs.declared.Delimiters.{Delimiters}
 use Rattle.rules.specs.declared.Kind.TheVariants.{AN, ID, N0, DT, TM}
 use Rattle.rules.specs.declared.Relation.TheVariants.{E}
-use Rattle.rules.specs.declared.Repetition.TheVariants.{By}
 
 unfoldable pub t1_rows : List Row
 t1_rows =
@@ -35,7 +34,7 @@ other_table = record {
 
 -- the delimiters * > ~ ^
 abbrev pub other_delimiters : Delimiters
-other_delimiters = record { element = 42; component = 62; terminator = 126; repetition = By 94 }
+other_delimiters = record { element = 42; component = 62; terminator = 126; repetition = Some 94 }
 
 -- the notes of a set with a trailer, by its segments
 abbrev pub other_notes : List Segment → List Note

@@ -3,7 +3,7 @@
 ghost use Rattle.writing.specs.Over.{Wrote};
 ghost use Rattle.other_table.specs.OtherTable.{notes_text};
 
-use rules::{Delimiters, Repetition};
+use rules::Delimiters;
 use tables::{AN, DT, E, ELEMENT, ID, M, N0, NOTE, O, SEGMENT, TM, VALUE};
 
 const DIRECTORY: [[u8; 3]; 3] = [*b"ST\0", *b"SE\0", *b"T1\0"];
@@ -33,7 +33,7 @@ const ROWS: [[u16; 6]; 17] = [
 pub extern "C" fn x12_other_table_notes(set: &[u8], out: &mut [u8]) -> usize
     ensures { Wrote (notes_text set.now) result out.old out.new }
 {
-    let d = Delimiters::new(b'*', b'>', b'~', Repetition::By(b'^'));
+    let d = Delimiters::new(b'*', b'>', b'~', Some(b'^'));
     let told = notes::put_notes(out, set, d, &DIRECTORY, &ROWS, true);
     told.length
 }

@@ -1,6 +1,6 @@
 -- Demand 2, group by group: what a buffer with a response tells of each set of each group, what it shows of its elements, and what it counts.
 -- `Faces` carries it to both faces.
-use Rattle.std.specs.Prelude.{if◌then◌else◌}
+use Rattle.std.specs.Prelude.{if◌then◌else◌, Some}
 use mathlib.Core.Path.{◌≡◌, refl, sym, ap, ◌∙◌, subst⁻¹}
 use mathlib.Core.Logic.{◌↔◌}
 use mathlib.Core.List.{List, [], ◌++◌, append_assoc}
@@ -14,7 +14,6 @@ use Rattle.rules.specs.Groups.{Group, sets, table_in, accepted_in, GroupReport, 
 use Rattle.rules.specs.Response.{segment_out, out, ak5, ak9, se_out, told, transaction_set, ge_out, response}
 use Rattle.rules.specs.Damage.{groups_in, closing, beginning, ending, blocks_of, joined}
 use Rattle.rules.specs.declared.Call.{Call}
-use Rattle.rules.specs.declared.Repetition.TheVariants.{By}
 use Rattle.rules.proofs.Facts.{allowed_counts, segments_counted}
 use Rattle.rules.proofs.Damage.{acknowledgment_parts}
 use Rattle.rules.proofs.Accepting.{Sound, accepting, before, report_at_lem, four_codes, received_headers}
@@ -59,7 +58,7 @@ pub record Tells (i lent : Bytes) (call : Call) (m : ℕ) (w : Group) (k : ℕ) 
   -- and stand by place and then by code
   pub ordered : Each Ordered (report_at i m w k y).notes
   -- where it is sound, no element at a place of its table holds the repetition separator
-  pub unrepeated : (b : ℕ) → repetition_in i ≡ By b
+  pub unrepeated : (b : ℕ) → repetition_in i ≡ Some b
       → (sound : Sound (delimiters i) (group_numbered i m w).header (take k (sets_at i m w)) (get_or (sets_at i m w) k x))
       → Unrepeated b sound.table (get_or (sets_at i m w) k x)
 

@@ -17,7 +17,7 @@ use Rattle.rules.specs.InterchangeAcknowledgment.{note_code_rules, Verdict, inte
 use Rattle.rules.specs.Answers.{Reply, functional_acknowledgment, interchange_acknowledgment, answer, Outcome, outcome, called}
 use Rattle.rules.specs.declared.Call.{Call}
 use Rattle.rules.specs.declared.Delimiters.{Delimiters}
-use Rattle.rules.proofs.Facts.{allowed_outcome}
+use Rattle.rules.proofs.Facts.{allowed_outcome, interchange_numbered}
 use Rattle.rules.proofs.InterchangeAcknowledgment.{verdict_in, isa_long, response_long, verdict_stands, accepted_verdict, OfVerdict, StandsFor, past_opening, opening_again, opening_good, opened, asked_passes, long_enough, passed_accepted, accepted_spared, rejected_stands}
 use Rattle.rules.proofs.Exchange.{sample_call}
 use Rattle.rules.proofs.Caret.{Barred, barred, received_with, barred_by}
@@ -106,7 +106,7 @@ asks_nothing κs a = tt
 
 pub calls : (κs : _) (a : _) (r : _) (s : _) → acknowledge_interchange.Post κs a r s
     → outcome r s.1.0.now ≡ called (interchange_acknowledgment a.0.now a.1.1.0) a.1.0.now
-calls κs a r s p = allowed_outcome (interchange_acknowledgment a.0.now a.1.1.0) a.1.0.now r p
+calls κs a r s p = allowed_outcome (interchange_acknowledgment a.0.now a.1.1.0) a.1.0.now r (interchange_numbered a.0.now a.1.1.0) p
 
 pub acknowledge_interchange_promised : (κs : _) (a : _) (r : _) (s : _) → acknowledge_interchange.Post κs a r s
     → Promised a.0.now a.1.0.now a.1.1.0 (outcome r s.1.0.now)

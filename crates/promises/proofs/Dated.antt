@@ -1,14 +1,13 @@
 -- Where an interchange is answered, the caller's date, each GS04, and every B103 of an accepted set that is not empty are days of the calendar. `Faces`
 -- carries it to both faces.
-use Rattle.std.specs.Prelude.{if◌then◌else◌}
+use Rattle.std.specs.Prelude.{if◌then◌else◌, option_to_list, is_none, Some}
 use mathlib.Core.Path.{◌≡◌, refl, sym, ap, ◌∙◌}
 use mathlib.Core.Bool.{Bool, true, false, ◌&&◌, ◌||◌, not, true≢false}
 use mathlib.Core.List.{List, [], ◌∷◌, ◌++◌, map, append-eq-nil_iff, cons-ne-nil}
-use mathlib.Core.Option.{some}
 use Prim.Native.Nat.{ℕ, zero, suc, ◌+◌, ◌/◌, ◌%◌, ◌<◌}
 use lib.Dec.{leb, ltb, eqb}
 use lib.ListN.{length, get_or}
-use Rattle.rules.specs.Base.{Bytes, ascii, null, any, same, between, first, every, ◌⇒◌, listed, is_none}
+use Rattle.rules.specs.Base.{Bytes, ascii, null, any, same, between, first, every, ◌⇒◌}
 use Rattle.rules.specs.Cutting.{Segment, field, delimiters}
 use Rattle.rules.specs.Numbers.{digits, value, is_day, is_date}
 use Rattle.rules.specs.Tables.{Row, Syntax, Table, row, O, directory, b1_rows, table006010, table004010}
@@ -74,8 +73,8 @@ row_clear d notes s n r rs e =
     let own = element_code d r (field s n) in
     let rules = (eqb own 1 ⇒ 1) ∷ (lacks notes s n ⇒ 2) ∷ (between 4 9 own ⇒ own) ∷ (shuts_out notes s n ⇒ 10) ∷ (eqb own 12 ⇒ 12) ∷ [] in
     let parts = (append-eq-nil_iff {p = map (found d s r n) (every rules)} {q = findings_from d notes s (n + 1) rs}).0 e in
-    let none = (none_given rules).0 (ap null (map_nil (found d s r n) (every rules) parts.0)) in
-    (rw none.1.1.0 none.1.1.1.1.0, parts.1)
+    let absent = (none_given rules).0 (ap null (map_nil (found d s r n) (every rules) parts.0)) in
+    (rw absent.1.1.0 absent.1.1.1.1.0, parts.1)
 
 -- 2. A B1 without findings has a date in B103, or nothing.
 b1_dated : (d : Delimiters) (s : Segment) → null (field s 3) ≡ false → findings_from d [] s 1 b1_rows ≡ [] → is_date (field s 3) ≡ true
@@ -86,7 +85,7 @@ b1_dated d s f e =
     uncoded d (field s 3) f (row_clear d [] s 3 _ _ after_b102).0
 
 -- 3. In both tables the entry of B1 is the second, wherever a set has come to.
-by_second : (d : Delimiters) (t : Table) (p : Present) (s : Segment) → findings_by d t (compared p.index (some 1)) s ≡ findings d (entry_at t 1) s
+by_second : (d : Delimiters) (t : Table) (p : Present) (s : Segment) → findings_by d t (compared p.index (Some 1)) s ≡ findings d (entry_at t 1) s
 by_second d t p s = go (ltb 1 p.index) (eqb 1 p.index)
   where
     go : (b c : Bool) → findings_by d t (if b then before 1 else (if c then again 1 else later 1)) s ≡ findings d (entry_at t 1) s
@@ -137,7 +136,7 @@ sound_dated d gs earlier s k j b f =
     let header = segment_note 1 0 (field s.header 0) (findings d (entry_at k.table 0) s.header) in
     let closed = not (is_none s.trailer) in
     let start : Present = record { index = 0; used = 1 } in
-    let more = listed s.trailer in
+    let more = option_to_list s.trailer in
     let rest = ((append-eq-nil_iff {p = header} {q = walk d k.table closed start 2 (s.body ++ more)}).0 k.unnoted).1 in
     walk_dated k.known.gs08 d closed start 2 s.body more rest j b f
 

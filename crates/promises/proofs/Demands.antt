@@ -4,7 +4,7 @@ use mathlib.Core.Bool.{Bool, true, false}
 use mathlib.Core.List.{List, ◌++◌}
 use Prim.Native.Nat.{◌≤◌, ◌<◌}
 use native.Mathlib.Omega.{arith}
-use borrow.Author.Tests.{ne_eqb, eqb-false, le-leb, lt-leb}
+use borrow.Author.Tests.{ne_eqb, le-leb, lt-leb}
 use lib.Dec.{leb, eqb}
 use lib.ListN.{length, drop}
 use Rattle.rules.specs.Base.{Bytes}
@@ -12,11 +12,11 @@ use Rattle.rules.specs.Cutting.{delimiters}
 use Rattle.rules.specs.Groups.{Group}
 use Rattle.rules.specs.Refusals.{refusal}
 use Rattle.rules.specs.Response.{out, response}
-use Rattle.rules.specs.Answers.{functional_acknowledgment, Allowed, answer, outcome, called, number, buffer}
+use Rattle.rules.specs.Answers.{functional_acknowledgment, Allowed, answer, outcome, called, number, buffer, Answer}
 use Rattle.rules.specs.Damage.{DamagedGroups, groups_in, rebuilt, opening, closing, acknowledgments_in, joined, Stays}
 use Rattle.rules.specs.declared.Call.{Call}
-use Rattle.rules.specs.declared.Answer.{Answer}
-use Rattle.rules.proofs.Facts.{allowed_outcome}
+use Rattle.rules.specs.Refused.{refused as refusal_of}
+use Rattle.rules.proofs.Facts.{allowed_outcome, functional_numbered, numbered_refusal}
 use Rattle.rules.proofs.Damage.{response_parts, one_spoiled}
 use Rattle.acknowledgment.proofs.acknowledge.Reads as acknowledge
 
@@ -33,15 +33,15 @@ allows κs a r s p = p
 -- All that a caller sees is the outcome of the law. Shut out: any other number, length or byte.
 pub calls : (κs : _) (a : _) (r : _) (s : _) → acknowledge.Post κs a r s
     → outcome r s.1.0.now ≡ called (functional_acknowledgment a.0.now a.1.1.0) a.1.0.now
-calls κs a r s p = allowed_outcome (functional_acknowledgment a.0.now a.1.1.0) a.1.0.now r p
+calls κs a r s p = allowed_outcome (functional_acknowledgment a.0.now a.1.1.0) a.1.0.now r (functional_numbered a.0.now a.1.1.0) p
 
 module _ (i lent : Bytes) (call : Call) (a : Answer) (left : Bytes) (p : Allowed (functional_acknowledgment i call) lent a left) where
   -- 1. A refusal gives its number and the length 0, and every byte of the buffer is as lent. Shut out: a refusal that is none of 01's, and one
   -- that writes.
   pub refused : (refusal i call ≡ 0 → ⊥)
       → outcome a left ≡ record { number = refusal i call; size = 0; buffer = lent }
-  unfolding Allowed answer
-  refused h = rw (p.1, p.0, ne_eqb _ 0 h)
+  unfolding called
+  refused h = allowed_outcome (functional_acknowledgment i call) lent a (functional_numbered i call) p ∙ rw (ne_eqb _ 0 h)
 
   -- 2. Without a refusal the response of document 01 stands at the start of the buffer, with its length, and every byte after it is as lent.
   -- Shut out: refusing everything, doing nothing, and one fixed 997.
@@ -73,7 +73,7 @@ module _ (i lent : Bytes) (call : Call) (a : Answer) (left : Bytes) (p : Allowed
           → buffer a (response i call) lent ≡ response i call ++ drop (length (response i call)) lent
       go true q true k = rw (p.0, q, k)
       go true q false k = absurd (omega (arith, rw (q, k) at e'))
-      go false q c k = absurd (eqb-false _ 0 q (rw q at e'))
+      go false q c k = absurd (numbered_refusal (refusal_of (refusal i call)) (rw q at e'))
 
 -- 3. One spoiled set stays one spoiled set: two calls, before and after any sets of any groups got other segments between header and trailer.
 -- the bytes of a buffer after a response to i: what precedes the 997s, the 997s of the groups, what follows them, and what was lent

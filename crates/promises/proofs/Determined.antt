@@ -3,19 +3,25 @@
 -- than this one on any input, and a `requires`, by which a call would go without an outcome.
 use mathlib.Core.Path.{◌≡◌, refl, sym, ap, ◌∙◌}
 use mathlib.Core.List.{List}
+use lib.ListN.{get_or}
 use Prim.Native.Nat.{ℕ}
+use denote.RattleType.{RattleType}
+use denote.Param.Laws.{Laws}
+use mir.Syntax.{Dict}
 use Rattle.rules.specs.Base.{Bytes}
 use Rattle.rules.specs.Cutting.{Segment}
 use Rattle.rules.specs.declared.Delimiters.{Delimiters}
 use Rattle.rules.specs.Answers.{Outcome}
 use Rattle.rules.proofs.Facts.{once, once_answer}
 use Rattle.writing.specs.Over.{Wrote, From}
+use Rattle.writing.specs.declared.Piece.{Ghosts}
 use Rattle.notes.specs.Saying.{Tells}
 use Rattle.notes.specs.declared.Told.{Told}
 use Rattle.rules.proofs.Delimiters.new.Reads as rules_delimiters_new
 use Rattle.rules.proofs.Delimiters.separates_repetitions.Reads as rules_delimiters_separates_repetitions
 use Rattle.rules.proofs.Delimiters.is_mark.Reads as rules_delimiters_is_mark
 use Rattle.rules.proofs.Finding.new.Reads as rules_finding_new
+use Rattle.rules.proofs.Refusal.number.Reads as rules_refusal_number
 use Rattle.text.proofs.find_near.Reads as text_find_near
 use Rattle.text.proofs.find.Reads as text_find
 use Rattle.text.proofs.part.Reads as text_part
@@ -34,7 +40,7 @@ use Rattle.text.proofs.unsigned.Reads as text_unsigned
 use Rattle.text.proofs.is_valid.Reads as text_is_valid
 use Rattle.dates.proofs.is_day.Reads as dates_is_day
 use Rattle.dates.proofs.is_date.Reads as dates_is_date
-use Rattle.caller.proofs.call_refusal.Reads as caller_call_refusal
+use Rattle.caller.proofs.check_call.Reads as caller_check_call
 use Rattle.isa.proofs.read_isa.Reads as isa_read_isa
 use Rattle.isa.proofs.is_terminated.Reads as isa_is_terminated
 use Rattle.isa.proofs.isa_field.Reads as isa_isa_field
@@ -47,14 +53,13 @@ use Rattle.envelope.proofs.envelope_of.Reads as envelope_envelope_of
 use Rattle.envelope.proofs.is_of_envelope.Reads as envelope_is_of_envelope
 use Rattle.envelope.proofs.group_ending.Reads as envelope_group_ending
 use Rattle.envelope.proofs.next_group.Reads as envelope_next_group
-use Rattle.envelope.proofs.trailer_fault.Reads as envelope_trailer_fault
-use Rattle.group_header.proofs.header_refusal.Reads as group_header_header_refusal
-use Rattle.group_header.proofs.answer_refusal.Reads as group_header_answer_refusal
+use Rattle.envelope.proofs.check_trailer.Reads as envelope_check_trailer
+use Rattle.group_header.proofs.check_header.Reads as group_header_check_header
+use Rattle.group_header.proofs.check_answerable.Reads as group_header_check_answerable
 use Rattle.sets.proofs.next_set.Reads as sets_next_set
 use Rattle.sets.proofs.check_sets.Reads as sets_check_sets
 use Rattle.register.proofs.search.Reads as register_search
 use Rattle.register.proofs.field_end.Reads as register_field_end
-use Rattle.refusals.proofs.EnvelopeFault.refusal.Reads as refusals_envelope_fault_refusal
 use Rattle.refusals.proofs.check_head.Reads as refusals_check_head
 use Rattle.refusals.proofs.check_envelope.Reads as refusals_check_envelope
 use Rattle.refusals.proofs.check_group.Reads as refusals_check_group
@@ -78,14 +83,13 @@ use Rattle.guides.proofs.directory.Reads as guides_directory
 use Rattle.guides.proofs.rows.Reads as guides_rows
 use Rattle.guides.proofs.Edition.has_tables.Reads as guides_edition_has_tables
 use Rattle.guides.proofs.scope_of.Reads as guides_scope_of
-use Rattle.guides.proofs.TableAt.is_there.Reads as guides_table_at_is_there
 use Rattle.guides.proofs.table_of.Reads as guides_table_of
 use Rattle.verdicts.proofs.Codes.none.Reads as verdicts_codes_none
 use Rattle.verdicts.proofs.Codes.is_empty.Reads as verdicts_codes_is_empty
+use Rattle.verdicts.proofs.Verdict.byte.Reads as verdicts_verdict_byte
 use Rattle.verdicts.proofs.set_codes.Reads as verdicts_set_codes
 use Rattle.verdicts.proofs.summary_of.Reads as verdicts_summary_of
 use Rattle.verdicts.proofs.closes.Reads as verdicts_closes
-use Rattle.elements.proofs.Found.is_some.Reads as elements_found_is_some
 use Rattle.elements.proofs.PlaceCodes.lower.Reads as elements_place_codes_lower
 use Rattle.elements.proofs.PlaceCodes.higher.Reads as elements_place_codes_higher
 use Rattle.elements.proofs.PlaceCodes.finding.Reads as elements_place_codes_finding
@@ -99,15 +103,13 @@ use Rattle.elements.proofs.Marks.breaks_note.Reads as elements_marks_breaks_note
 use Rattle.findings.proofs.start.Reads as findings_start
 use Rattle.findings.proofs.next.Reads as findings_next
 use Rattle.findings.proofs.next_missing.Reads as findings_next_missing
-use Rattle.writing.proofs.clipped.Reads as writing_clipped
-use Rattle.writing.proofs.joined.Reads as writing_joined
-use Rattle.writing.proofs.add_byte.Reads as writing_add_byte
-use Rattle.writing.proofs.add_bytes.Reads as writing_add_bytes
-use Rattle.writing.proofs.add_number.Reads as writing_add_number
+use Rattle.writing.proofs.U8Piece.put.Reads as writing_put_byte
+use Rattle.writing.proofs.RefSliceU8Piece.put.Reads as writing_put_bytes
+use Rattle.writing.proofs.RefArrayU8Piece.put.Reads as writing_put_array
+use Rattle.writing.proofs.NumberPiece.put.Reads as writing_put_number
+use Rattle.writing.proofs.PaddedPiece.put.Reads as writing_put_padded
+use Rattle.writing.proofs.add.Reads as writing_add
 use Rattle.writing.proofs.add_field.Reads as writing_add_field
-use Rattle.writing.proofs.add_single.Reads as writing_add_single
-use Rattle.writing.proofs.add_count.Reads as writing_add_count
-use Rattle.writing.proofs.add_fixed.Reads as writing_add_fixed
 use Rattle.writing.proofs.add_optional.Reads as writing_add_optional
 use Rattle.writing.proofs.add_trailing.Reads as writing_add_trailing
 use Rattle.writing.proofs.add_codes.Reads as writing_add_codes
@@ -141,6 +143,13 @@ abbrev pub Determined {ℓ} : {K : Type ℓ} {A R S W : K → Type 0}
 Determined {K = K} {A} {R} {S} pre post seen =
     ((κs : K) (a : A κs) → pre κs a)
     × ((κs : K) (a : A κs) (r₁ r₂ : R κs) (s₁ s₂ : S κs) → post κs a r₁ s₁ → post κs a r₂ s₂ → seen κs r₁ s₁ ≡ seen κs r₂ s₂)
+
+-- The same of a function over any type of a trait. Its Pre says only that what the type borrows lives as long as the call; tests/determined sees
+-- that it has no `requires`.
+abbrev pub Coincides {ℓ} : {K : Type ℓ} {A R S W : K → Type 0}
+    → ((κs : K) → A κs → R κs → S κs → Type 0) → ((κs : K) → R κs → S κs → W κs) → Type ℓ
+Coincides {K = K} {A} {R} {S} post seen =
+    (κs : K) (a : A κs) (r₁ r₂ : R κs) (s₁ s₂ : S κs) → post κs a r₁ s₁ → post κs a r₂ s₂ → seen κs r₁ s₁ ≡ seen κs r₂ s₂
 
 -- what is seen so far, and one more that was lent to be written
 abbrev pub beside : {R W : Type 0} → R → W → R × W
@@ -176,6 +185,9 @@ rules_delimiters_is_mark_once = ((λ κs a. tt), λ κs a r₁ r₂ s₁ s₂ p 
 
 rules_finding_new_once : Determined rules_finding_new.Pre rules_finding_new.Post (λ κs r s. r)
 rules_finding_new_once = ((λ κs a. tt), λ κs a r₁ r₂ s₁ s₂ p q. p ∙ sym q)
+
+rules_refusal_number_once : Determined rules_refusal_number.Pre rules_refusal_number.Post (λ κs r s. r)
+rules_refusal_number_once = ((λ κs a. tt), λ κs a r₁ r₂ s₁ s₂ p q. p ∙ sym q)
 
 -- text
 text_find_near_once : Determined text_find_near.Pre text_find_near.Post (λ κs r s. r)
@@ -231,8 +243,8 @@ dates_is_date_once : Determined dates_is_date.Pre dates_is_date.Post (λ κs r s
 dates_is_date_once = ((λ κs a. tt), λ κs a r₁ r₂ s₁ s₂ p q. p ∙ sym q)
 
 -- caller
-caller_call_refusal_once : Determined caller_call_refusal.Pre caller_call_refusal.Post (λ κs r s. r)
-caller_call_refusal_once = ((λ κs a. tt), λ κs a r₁ r₂ s₁ s₂ p q. p ∙ sym q)
+caller_check_call_once : Determined caller_check_call.Pre caller_check_call.Post (λ κs r s. r)
+caller_check_call_once = ((λ κs a. tt), λ κs a r₁ r₂ s₁ s₂ p q. p ∙ sym q)
 
 -- isa
 isa_read_isa_once : Determined isa_read_isa.Pre isa_read_isa.Post (λ κs r s. r)
@@ -273,15 +285,15 @@ envelope_group_ending_once = ((λ κs a. tt), λ κs a r₁ r₂ s₁ s₂ p q. 
 envelope_next_group_once : Determined envelope_next_group.Pre envelope_next_group.Post (λ κs r s. r)
 envelope_next_group_once = ((λ κs a. tt), λ κs a r₁ r₂ s₁ s₂ p q. p ∙ sym q)
 
-envelope_trailer_fault_once : Determined envelope_trailer_fault.Pre envelope_trailer_fault.Post (λ κs r s. r)
-envelope_trailer_fault_once = ((λ κs a. tt), λ κs a r₁ r₂ s₁ s₂ p q. p ∙ sym q)
+envelope_check_trailer_once : Determined envelope_check_trailer.Pre envelope_check_trailer.Post (λ κs r s. r)
+envelope_check_trailer_once = ((λ κs a. tt), λ κs a r₁ r₂ s₁ s₂ p q. p ∙ sym q)
 
 -- group_header
-group_header_header_refusal_once : Determined group_header_header_refusal.Pre group_header_header_refusal.Post (λ κs r s. r)
-group_header_header_refusal_once = ((λ κs a. tt), λ κs a r₁ r₂ s₁ s₂ p q. p ∙ sym q)
+group_header_check_header_once : Determined group_header_check_header.Pre group_header_check_header.Post (λ κs r s. r)
+group_header_check_header_once = ((λ κs a. tt), λ κs a r₁ r₂ s₁ s₂ p q. p ∙ sym q)
 
-group_header_answer_refusal_once : Determined group_header_answer_refusal.Pre group_header_answer_refusal.Post (λ κs r s. r)
-group_header_answer_refusal_once = ((λ κs a. tt), λ κs a r₁ r₂ s₁ s₂ p q. p ∙ sym q)
+group_header_check_answerable_once : Determined group_header_check_answerable.Pre group_header_check_answerable.Post (λ κs r s. r)
+group_header_check_answerable_once = ((λ κs a. tt), λ κs a r₁ r₂ s₁ s₂ p q. p ∙ sym q)
 
 -- sets
 sets_next_set_once : Determined sets_next_set.Pre sets_next_set.Post (λ κs r s. r)
@@ -295,9 +307,6 @@ register_search_once : Determined register_search.Pre register_search.Post (λ �
 register_search_once = ((λ κs a. tt), λ κs a r₁ r₂ s₁ s₂ p q. p ∙ sym q)
 
 -- refusals
-refusals_envelope_fault_refusal_once : Determined refusals_envelope_fault_refusal.Pre refusals_envelope_fault_refusal.Post (λ κs r s. r)
-refusals_envelope_fault_refusal_once = ((λ κs a. tt), λ κs a r₁ r₂ s₁ s₂ p q. p ∙ sym q)
-
 refusals_check_head_once : Determined refusals_check_head.Pre refusals_check_head.Post (λ κs r s. r)
 refusals_check_head_once = ((λ κs a. tt), λ κs a r₁ r₂ s₁ s₂ p q. p ∙ sym q)
 
@@ -363,9 +372,6 @@ guides_edition_has_tables_once = ((λ κs a. tt), λ κs a r₁ r₂ s₁ s₂ p
 guides_scope_of_once : Determined guides_scope_of.Pre guides_scope_of.Post (λ κs r s. r)
 guides_scope_of_once = ((λ κs a. tt), λ κs a r₁ r₂ s₁ s₂ p q. p ∙ sym q)
 
-guides_table_at_is_there_once : Determined guides_table_at_is_there.Pre guides_table_at_is_there.Post (λ κs r s. r)
-guides_table_at_is_there_once = ((λ κs a. tt), λ κs a r₁ r₂ s₁ s₂ p q. p ∙ sym q)
-
 guides_table_of_once : Determined guides_table_of.Pre guides_table_of.Post (λ κs r s. r)
 guides_table_of_once = ((λ κs a. tt), λ κs a r₁ r₂ s₁ s₂ p q. p ∙ sym q)
 
@@ -376,6 +382,9 @@ verdicts_codes_none_once = ((λ κs a. tt), λ κs a r₁ r₂ s₁ s₂ p q. p 
 verdicts_codes_is_empty_once : Determined verdicts_codes_is_empty.Pre verdicts_codes_is_empty.Post (λ κs r s. r)
 verdicts_codes_is_empty_once = ((λ κs a. tt), λ κs a r₁ r₂ s₁ s₂ p q. p ∙ sym q)
 
+verdicts_verdict_byte_once : Determined verdicts_verdict_byte.Pre verdicts_verdict_byte.Post (λ κs r s. r)
+verdicts_verdict_byte_once = ((λ κs a. tt), λ κs a r₁ r₂ s₁ s₂ p q. ap (λ (l : Bytes). get_or l 0 0) (p ∙ sym q))
+
 verdicts_set_codes_once : Determined verdicts_set_codes.Pre verdicts_set_codes.Post (λ κs r s. r)
 verdicts_set_codes_once = ((λ κs a. tt), λ κs a r₁ r₂ s₁ s₂ p q. p ∙ sym q)
 
@@ -383,9 +392,6 @@ verdicts_summary_of_once : Determined verdicts_summary_of.Pre verdicts_summary_o
 verdicts_summary_of_once = ((λ κs a. tt), λ κs a r₁ r₂ s₁ s₂ p q. p ∙ sym q)
 
 -- elements
-elements_found_is_some_once : Determined elements_found_is_some.Pre elements_found_is_some.Post (λ κs r s. r)
-elements_found_is_some_once = ((λ κs a. tt), λ κs a r₁ r₂ s₁ s₂ p q. p ∙ sym q)
-
 elements_place_codes_lower_once : Determined elements_place_codes_lower.Pre elements_place_codes_lower.Post (λ κs r s. r)
 elements_place_codes_lower_once = ((λ κs a. tt), λ κs a r₁ r₂ s₁ s₂ p q. p ∙ sym q)
 
@@ -427,32 +433,27 @@ findings_next_missing_once : Determined findings_next_missing.Pre findings_next_
 findings_next_missing_once = ((λ κs a. tt), λ κs a r₁ r₂ s₁ s₂ p q. p ∙ sym q)
 
 -- writing
-writing_clipped_once : Determined writing_clipped.Pre writing_clipped.Post (λ κs r s. r)
-writing_clipped_once = ((λ κs a. tt), λ κs a r₁ r₂ s₁ s₂ p q. p ∙ sym q)
+-- each piece
+writing_put_byte_once : Determined writing_put_byte.Pre writing_put_byte.Post (λ κs r s. beside r s.1.0.now)
+writing_put_byte_once = ((λ κs a. tt), λ κs a r₁ r₂ s₁ s₂ p q. wrote_once p q)
 
-writing_joined_once : Determined writing_joined.Pre writing_joined.Post (λ κs r s. r)
-writing_joined_once = ((λ κs a. tt), λ κs a r₁ r₂ s₁ s₂ p q. p ∙ sym q)
+writing_put_bytes_once : Determined writing_put_bytes.Pre writing_put_bytes.Post (λ κs r s. beside r s.1.0.now)
+writing_put_bytes_once = ((λ κs a. tt), λ κs a r₁ r₂ s₁ s₂ p q. wrote_once p q)
 
-writing_add_byte_once : Determined writing_add_byte.Pre writing_add_byte.Post (λ κs r s. beside r s.0.now)
-writing_add_byte_once = ((λ κs a. tt), λ κs a r₁ r₂ s₁ s₂ p q. from_once p q)
+writing_put_array_once : (N : _) (F : _) → Coincides (writing_put_array.Post N F) (λ κs r s. beside r s.1.0.now)
+writing_put_array_once N F = λ κs a r₁ r₂ s₁ s₂ p q. wrote_once p q
 
-writing_add_bytes_once : Determined writing_add_bytes.Pre writing_add_bytes.Post (λ κs r s. beside r s.0.now)
-writing_add_bytes_once = ((λ κs a. tt), λ κs a r₁ r₂ s₁ s₂ p q. from_once p q)
+writing_put_number_once : Determined writing_put_number.Pre writing_put_number.Post (λ κs r s. beside r s.1.0.now)
+writing_put_number_once = ((λ κs a. tt), λ κs a r₁ r₂ s₁ s₂ p q. wrote_once p q)
 
-writing_add_number_once : Determined writing_add_number.Pre writing_add_number.Post (λ κs r s. beside r s.0.now)
-writing_add_number_once = ((λ κs a. tt), λ κs a r₁ r₂ s₁ s₂ p q. from_once p q)
+writing_put_padded_once : (W : _) (F : _) → Coincides (writing_put_padded.Post W F) (λ κs r s. beside r s.1.0.now)
+writing_put_padded_once W F = λ κs a r₁ r₂ s₁ s₂ p q. wrote_once p q
 
-writing_add_field_once : Determined writing_add_field.Pre writing_add_field.Post (λ κs r s. beside r s.0.now)
-writing_add_field_once = ((λ κs a. tt), λ κs a r₁ r₂ s₁ s₂ p q. from_once p q)
+writing_add_once : (P : RattleType) (L : Laws P) (G : Ghosts P.Denot) (w : Dict) → Coincides (writing_add.Post P L G w) (λ κs r s. beside r s.0.now)
+writing_add_once P L G w = λ κs a r₁ r₂ s₁ s₂ p q. from_once p q
 
-writing_add_single_once : Determined writing_add_single.Pre writing_add_single.Post (λ κs r s. beside r s.0.now)
-writing_add_single_once = ((λ κs a. tt), λ κs a r₁ r₂ s₁ s₂ p q. from_once p q)
-
-writing_add_count_once : Determined writing_add_count.Pre writing_add_count.Post (λ κs r s. beside r s.0.now)
-writing_add_count_once = ((λ κs a. tt), λ κs a r₁ r₂ s₁ s₂ p q. from_once p q)
-
-writing_add_fixed_once : Determined writing_add_fixed.Pre writing_add_fixed.Post (λ κs r s. beside r s.0.now)
-writing_add_fixed_once = ((λ κs a. tt), λ κs a r₁ r₂ s₁ s₂ p q. from_once p q)
+writing_add_field_once : (P : RattleType) (L : Laws P) (G : Ghosts P.Denot) (w : Dict) → Coincides (writing_add_field.Post P L G w) (λ κs r s. beside r s.0.now)
+writing_add_field_once P L G w = λ κs a r₁ r₂ s₁ s₂ p q. from_once p q
 
 writing_add_optional_once : Determined writing_add_optional.Pre writing_add_optional.Post (λ κs r s. beside r s.0.now)
 writing_add_optional_once = ((λ κs a. tt), λ κs a r₁ r₂ s₁ s₂ p q. from_once p q)

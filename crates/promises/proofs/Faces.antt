@@ -1,4 +1,5 @@
 -- What holds of every outcome of a call, by the Rattle function and by the face for C: read off the contracts of both.
+use Rattle.std.specs.Prelude.{Some}
 use mathlib.Core.Path.{◌≡◌, sym, ap, ◌∙◌}
 use mathlib.Core.Bool.{true}
 use mathlib.Core.List.{◌++◌}
@@ -13,7 +14,6 @@ use Rattle.rules.specs.Response.{out, respond, response}
 use Rattle.rules.specs.Answers.{Reply, functional_acknowledgment, Outcome, outcome, called}
 use Rattle.rules.specs.Damage.{groups_in}
 use Rattle.rules.specs.declared.Call.{Call}
-use Rattle.rules.specs.declared.Repetition.TheVariants.{By}
 use Rattle.rules.proofs.Logic.{Each}
 use Rattle.rules.proofs.Sent.{Without, separator_unadmitted}
 use Rattle.rules.proofs.Exchange.{received, sent, sample_call, received_two, sent_two, Faulty, faulty, received_of, refusal_of}
@@ -65,7 +65,7 @@ pub record Promised (i lent : Bytes) (call : Call) (o : Outcome) : Type 0 where
   pub dated : o.number ≡ 0 → Dated i call
   -- an answer is given only where the repetition separator stands in no text of a GS and in no ST02 of any group: shut out is a program that looks at
   -- those of the first group only
-  pub separated : o.number ≡ 0 → (b : ℕ) → repetition_in i ≡ By b → Each (Without b) (groups_in i)
+  pub separated : o.number ≡ 0 → (b : ℕ) → repetition_in i ≡ Some b → Each (Without b) (groups_in i)
   -- P1 to P12: row k of their table is answered, and its whole response stands at the start of the buffer: shut out is a program that draws one
   -- of these lines elsewhere
   pub marked : (m : Marked) (k : ℕ) → k < length marked → i ≡ received_for (get_or marked k m) → call ≡ sample_call

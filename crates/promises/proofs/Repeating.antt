@@ -1,4 +1,5 @@
 -- What is sent by each of the four entries: valid bytes and three delimiters. The repetition separator of the interchange is none of them.
+use Rattle.std.specs.Prelude.{Some}
 use mathlib.Core.Path.{◌≡◌, sym, ap, ◌∙◌}
 use mathlib.Core.Bool.{true}
 use Prim.Native.Nat.{ℕ}
@@ -9,7 +10,6 @@ use Rattle.rules.specs.Cutting.{repetition_in, delimiters}
 use Rattle.rules.specs.Answers.{Reply, functional_acknowledgment, interchange_acknowledgment, Outcome, outcome, called}
 use Rattle.rules.specs.Damage.{free}
 use Rattle.rules.specs.declared.Call.{Call}
-use Rattle.rules.specs.declared.Repetition.TheVariants.{By}
 use Rattle.rules.proofs.Sent.{is_sendable, sent_sendable, separator_unsent, sent_sendable_ta1, separator_unsent_ta1}
 use Rattle.promises.proofs.Shown as shown
 use Rattle.promises.proofs.Demands as demands
@@ -29,7 +29,7 @@ pub record Sends (i : Bytes) (o : Outcome) : Type 0 where
   -- each byte of it is valid or one of three delimiters: shut out is a control byte in an echo
   pub sendable : o.number ≡ 0 → all (is_sendable (delimiters i)) (sent_in o) ≡ true
   -- the repetition separator stands nowhere in it: shut out are an echo of a repeated element, and ISA11 given back as it came
-  pub unsent : o.number ≡ 0 → (b : ℕ) → repetition_in i ≡ By b → free b (sent_in o) ≡ true
+  pub unsent : o.number ≡ 0 → (b : ℕ) → repetition_in i ≡ Some b → free b (sent_in o) ≡ true
 
 module _ (reply : Reply) (lent : Bytes) (o : Outcome) (p : o ≡ called reply lent) (e : o.number ≡ 0) where
   -- without a refusal the response is sent

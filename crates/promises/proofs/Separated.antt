@@ -1,4 +1,5 @@
 -- What a repetition separator changes: an interchange that has one, beside the same with `U` in ISA11.
+use Rattle.std.specs.Prelude.{Some}
 use mathlib.Core.Path.{◌≡◌, refl, sym, ap, ◌∙◌}
 use mathlib.Core.Bool.{true, false, ◌&&◌}
 use mathlib.Core.List.{[], ◌++◌}
@@ -14,7 +15,6 @@ use Rattle.rules.specs.InterchangeAcknowledgment.{interchange_refusal}
 use Rattle.rules.specs.Answers.{Reply, functional_acknowledgment, interchange_acknowledgment, answer, Outcome, outcome, called}
 use Rattle.rules.specs.Damage.{free}
 use Rattle.rules.specs.declared.Call.{Call}
-use Rattle.rules.specs.declared.Repetition.TheVariants.{By}
 use Rattle.rules.proofs.Logic.{first_append_none}
 use Rattle.rules.proofs.Facts.{first_of, refusal_blocks}
 use Rattle.rules.proofs.InterchangeAcknowledgment.{same_early}
@@ -33,12 +33,12 @@ use Rattle.x12.proofs.x12_acknowledge_interchange.Reads as x12_acknowledge_inter
 pub record Separated (i judged : Bytes) (call : Call) (o other : Outcome) : Type 0 where
   -- Where 2 to 5 pass and the separator is not among the bytes judged, o is the other outcome: number, length and every byte. Shut out: a program that, once
   -- there is a separator, judges other values otherwise, as one that takes a B101 of five bytes then.
-  pub unheld : (b : ℕ) → repetition_in i ≡ By b → first (head_rules i) ≡ 0 → free b judged ≡ true → o ≡ other
+  pub unheld : (b : ℕ) → repetition_in i ≡ Some b → first (head_rules i) ≡ 0 → free b judged ≡ true → o ≡ other
   -- Where 1 to 5 pass with `U`, the number is 4 where the separator is a letter, a digit, a space or one of the other delimiters,
-  pub four : (b : ℕ) → repetition_in i ≡ By b → first (call_rules call ++ head_rules (with_u i)) ≡ 0
+  pub four : (b : ℕ) → repetition_in i ≡ Some b → first (call_rules call ++ head_rules (with_u i)) ≡ 0
       → plain b && free b (marks (delimiters (with_u i))) ≡ false → o.number ≡ 4
   -- and else 5 where it stands at another byte of ISA. Shut out: 5 before 4, and a separator that is looked for in some of the fields alone.
-  pub five : (b : ℕ) → repetition_in i ≡ By b → first (call_rules call ++ head_rules (with_u i)) ≡ 0
+  pub five : (b : ℕ) → repetition_in i ≡ Some b → first (call_rules call ++ head_rules (with_u i)) ≡ 0
       → plain b && free b (marks (delimiters (with_u i))) ≡ true → free b (take 106 (with_u i)) ≡ false → o.number ≡ 5
 
 -- the number of a refusal
@@ -52,7 +52,7 @@ module _ (i : Bytes) (call : Call) where
   unfolding first_of
   refusal_head n z c h = refusal_blocks i call ∙ rw (c, h, z)
 
-  module _ (b : ℕ) (separates : repetition_in i ≡ By b) (e : first (call_rules call ++ head_rules (with_u i)) ≡ 0) where
+  module _ (b : ℕ) (separates : repetition_in i ≡ Some b) (e : first (call_rules call ++ head_rules (with_u i)) ≡ 0) where
     none : (first (call_rules call) ≡ 0) × (first (head_rules (with_u i)) ≡ 0)
     unfolding call_rules
     none = first_append_none (call_rules call) (head_rules (with_u i)) tt e

@@ -5,11 +5,11 @@
 use mathlib.Core.Path.{◌≡◌, refl, sym, ap, ◌∙◌, subst, subst⁻¹}
 use mathlib.Core.Bool.{true}
 use mathlib.Core.List.{List, [], ◌∷◌, ◌++◌, map, append-nil}
-use mathlib.Core.Option.{Option, none, some}
+use Rattle.std.specs.Prelude.{Option, None, Some, option_to_list}
 use Prim.Native.Nat.{ℕ, zero, suc, ◌+◌, ◌≤◌, ◌<◌}
 use native.Mathlib.Nat.{not-suc-le-zero, le_of_suc-le-suc}
 use lib.ListN.{length, take, get_or}
-use Rattle.rules.specs.Base.{Bytes, ascii, all, last, listed}
+use Rattle.rules.specs.Base.{Bytes, ascii, all, last}
 use Rattle.rules.specs.Cutting.{Segment, pieces, segments, delimiters}
 use Rattle.rules.specs.Numbers.{padded, decimal}
 use Rattle.rules.specs.Sets.{Set}
@@ -22,7 +22,7 @@ use Rattle.rules.specs.declared.Call.{Call}
 use Rattle.rules.specs.declared.Delimiters.{Delimiters}
 use Rattle.rules.proofs.Logic.{all_head, all_tail, Each, each_at}
 use Rattle.rules.proofs.Cuts.{segments_whole, out_segments, out_append}
-use Rattle.rules.proofs.Facts.{received_counts}
+use Rattle.rules.proofs.Facts.{received_counts, allowed_outcome, functional_numbered}
 use Rattle.rules.proofs.Envelope.{clear, Made, made}
 use Rattle.rules.proofs.Damage.{acknowledgment_parts, blocks_written, sets_after, own_sets, groups_count, rebuilt_own, answered_clear}
 use Rattle.rules.proofs.Placed.{blocks_counted, acknowledgments_counted, numbered_at}
@@ -52,8 +52,8 @@ Choices = ℕ → Choice
 
 -- what is chosen for a set may stand in it
 abbrev pub Fills : Delimiters → Option Bytes → Type 0
-Fills d none = Unit {0}
-Fills d (some bs) = Filling d bs
+Fills d None = Unit {0}
+Fills d (Some bs) = Filling d bs
 
 -- what is chosen for the sets, or in the groups, after the first
 abbrev later : {A : Type 0} → (ℕ → A) → ℕ → A
@@ -62,20 +62,20 @@ later choice k = choice (suc k)
 -- 2. The interchange that comes of it, in bytes.
 -- what then stands between the header and the trailer of a set
 abbrev pub inner_bytes : Delimiters → Set → Option Bytes → Bytes
-inner_bytes d s none = out d s.body
-inner_bytes d s (some bs) = bs
+inner_bytes d s None = out d s.body
+inner_bytes d s (Some bs) = bs
 
 -- the bytes of sets, one set after the other: its header, what stands between, and its trailer where it has one
 unfoldable pub set_bytes : Delimiters → Choice → List Set → Bytes
 set_bytes d choice [] = []
 set_bytes d choice (s ∷ ss) =
-    segment_out d s.header ++ (inner_bytes d s (choice 0) ++ (out d (listed s.trailer) ++ set_bytes d (later choice) ss))
+    segment_out d s.header ++ (inner_bytes d s (choice 0) ++ (out d (option_to_list s.trailer) ++ set_bytes d (later choice) ss))
 
 -- the bytes of groups, one group after the other: GS, its sets, and GE where it has one
 unfoldable pub group_bytes : Delimiters → Choices → List Group → Bytes
 group_bytes d choices [] = []
 group_bytes d choices (g ∷ gs) =
-    segment_out d g.header ++ (set_bytes d (choices 0) (sets g) ++ (out d (listed g.trailer) ++ group_bytes d (later choices) gs))
+    segment_out d g.header ++ (set_bytes d (choices 0) (sets g) ++ (out d (option_to_list g.trailer) ++ group_bytes d (later choices) gs))
 
 -- the bytes of the interchange i with what is chosen in its sets: ISA, the groups, and IEA
 unfoldable pub replaced : Bytes → Choices → Bytes
@@ -86,8 +86,8 @@ replaced i choices =
 -- 3. The same as groups whose sets have other segments.
 -- a set with what is chosen for it
 abbrev refill : Delimiters → Set → Option Bytes → Set
-refill d s none = s
-refill d s (some bs) = refilled s (segments d bs)
+refill d s None = s
+refill d s (Some bs) = refilled s (segments d bs)
 
 -- the sets with what is chosen in them
 unfoldable pub chosen : Delimiters → Choice → List Set → List Set
@@ -121,8 +121,8 @@ chosen_damaged d choice [] f = done
 chosen_damaged d choice (s ∷ ss) f = go (choice 0) (f 0) (chosen_damaged d (later choice) ss (λ k. f (suc k)))
   where
     go : (c : Option Bytes) → Fills d c → {ts : List Set} → Damaged d ss ts → Damaged d (s ∷ ss) (refill d s c ∷ ts)
-    go none h r = kept r
-    go (some bs) h r = spoiled (segments d bs) (both_filling d (segments d bs) (segments_whole d bs) h.inner) r
+    go None h r = kept r
+    go (Some bs) h r = spoiled (segments d bs) (both_filling d (segments d bs) (segments_whole d bs) h.inner) r
 
 chosen_out : (d : Delimiters) (choice : Choice) (ss : List Set) → ((k : ℕ) → Fills d (choice k)) → out d (flat (chosen d choice ss)) ≡ set_bytes d choice ss
 unfolding chosen set_bytes flat out
@@ -130,24 +130,24 @@ chosen_out d choice [] f = refl
 chosen_out d choice (s ∷ ss) f = go (choice 0) (f 0) (chosen d (later choice) ss) _ (chosen_out d (later choice) ss (λ k. f (suc k)))
   where
     parts : (body : List Segment) (bs : Bytes) (ts : List Set) (rest : Bytes) → out d body ≡ bs → out d (flat ts) ≡ rest
-        → segment_out d s.header ++ out d (body ++ (listed s.trailer ++ flat ts))
-        ≡ segment_out d s.header ++ (bs ++ (out d (listed s.trailer) ++ rest))
+        → segment_out d s.header ++ out d (body ++ (option_to_list s.trailer ++ flat ts))
+        ≡ segment_out d s.header ++ (bs ++ (out d (option_to_list s.trailer) ++ rest))
     parts body bs ts rest e r =
         ap (λ (l : Bytes). segment_out d s.header ++ l)
-        (out_append d body (listed s.trailer ++ flat ts) ∙ rw (e, out_append d (listed s.trailer) (flat ts), r))
+        (out_append d body (option_to_list s.trailer ++ flat ts) ∙ rw (e, out_append d (option_to_list s.trailer) (flat ts), r))
 
     go : (c : Option Bytes) → Fills d c → (ts : List Set) (rest : Bytes) → out d (flat ts) ≡ rest
-        → out d (flat (refill d s c ∷ ts)) ≡ segment_out d s.header ++ (inner_bytes d s c ++ (out d (listed s.trailer) ++ rest))
-    go none h ts rest r = parts s.body (out d s.body) ts rest refl r
-    go (some bs) h ts rest r = parts (segments d bs) bs ts rest (whole_out h.whole) r
+        → out d (flat (refill d s c ∷ ts)) ≡ segment_out d s.header ++ (inner_bytes d s c ++ (out d (option_to_list s.trailer) ++ rest))
+    go None h ts rest r = parts s.body (out d s.body) ts rest refl r
+    go (Some bs) h ts rest r = parts (segments d bs) bs ts rest (whole_out h.whole) r
 
-chosen_kept : (d : Delimiters) (choice : Choice) (ss : List Set) (k : ℕ) (x : Set) → choice k ≡ none → get_or (chosen d choice ss) k x ≡ get_or ss k x
+chosen_kept : (d : Delimiters) (choice : Choice) (ss : List Set) (k : ℕ) (x : Set) → choice k ≡ None → get_or (chosen d choice ss) k x ≡ get_or ss k x
 unfolding chosen
 chosen_kept d choice [] k x e = refl
 chosen_kept d choice (s ∷ ss) zero x e = ap (refill d s) e
 chosen_kept d choice (s ∷ ss) (suc k) x e = chosen_kept d (later choice) ss k x e
 
-chosen_own : (d : Delimiters) (choice : Choice) (ss : List Set) → ((k : ℕ) → choice k ≡ none) → chosen d choice ss ≡ ss
+chosen_own : (d : Delimiters) (choice : Choice) (ss : List Set) → ((k : ℕ) → choice k ≡ None) → chosen d choice ss ≡ ss
 unfolding chosen
 chosen_own d choice [] n = refl
 chosen_own d choice (s ∷ ss) n = rw (n 0, chosen_own d (later choice) ss (λ k. n (suc k)))
@@ -167,8 +167,8 @@ groups_out d choices (g ∷ gs) f =
     let ts = chosen d (choices 0) (sets g) in
     let rest = flat_groups (chosen_groups d (later choices) gs) in
     ap (λ (l : Bytes). segment_out d g.header ++ l)
-    (out_append d (flat ts) (listed g.trailer ++ rest)
-    ∙ rw (chosen_out d (choices 0) (sets g) (f 0), out_append d (listed g.trailer) rest, groups_out d (later choices) gs (λ m. f (suc m))))
+    (out_append d (flat ts) (option_to_list g.trailer ++ rest)
+    ∙ rw (chosen_out d (choices 0) (sets g) (f 0), out_append d (option_to_list g.trailer) rest, groups_out d (later choices) gs (λ m. f (suc m))))
 
 group_at_lem : (d : Delimiters) (choices : Choices) (gs : List Group) (m : ℕ) (w : Group) → m < length gs
     → get_or (chosen_groups d choices gs) m w ≡ chosen_group d (choices m) (get_or gs m w)
@@ -178,20 +178,20 @@ group_at_lem d choices (g ∷ gs) zero w h = refl
 group_at_lem d choices (g ∷ gs) (suc m) w h = group_at_lem d (later choices) gs m w (le_of_suc-le-suc h)
 
 -- a group in which nothing is replaced is itself
-group_own : (d : Delimiters) (choice : Choice) {g : Group} → Made g → ((k : ℕ) → choice k ≡ none) → chosen_group d choice g ≡ g
+group_own : (d : Delimiters) (choice : Choice) {g : Group} → Made g → ((k : ℕ) → choice k ≡ None) → chosen_group d choice g ≡ g
 group_own d choice {g} made n = ap (with_sets g) (chosen_own d choice (sets g) n) ∙ own_sets made
 
-group_kept : (d : Delimiters) (choices : Choices) (gs : List Group) (m : ℕ) (w : Group) → Each Made gs → ((k : ℕ) → choices m k ≡ none)
+group_kept : (d : Delimiters) (choices : Choices) (gs : List Group) (m : ℕ) (w : Group) → Each Made gs → ((k : ℕ) → choices m k ≡ None)
     → get_or (chosen_groups d choices gs) m w ≡ get_or gs m w
 unfolding chosen_groups Each
 group_kept d choices [] m w made n = refl
 group_kept d choices (g ∷ gs) zero w made n = group_own d (choices 0) made.0 n
 group_kept d choices (g ∷ gs) (suc m) w made n = group_kept d (later choices) gs m w made.1 n
 
-groups_own : (d : Delimiters) (gs : List Group) → Each Made gs → chosen_groups d (λ m k. none) gs ≡ gs
+groups_own : (d : Delimiters) (gs : List Group) → Each Made gs → chosen_groups d (λ m k. None) gs ≡ gs
 unfolding chosen_groups Each
 groups_own d [] made = refl
-groups_own d (g ∷ gs) made = rw (group_own d (λ k. none) made.0 (λ k. refl), groups_own d gs made.1)
+groups_own d (g ∷ gs) made = rw (group_own d (λ k. None) made.0 (λ k. refl), groups_own d gs made.1)
 
 -- the groups of an interchange with what is chosen in them
 abbrev pub chosen_in : Bytes → Choices → List Group
@@ -208,20 +208,20 @@ rebuilt_replaced i choices f =
 
 -- An interchange in whose sets nothing is replaced is itself, byte for byte. Shut out: a statement of demand 3 about other bytes than those of
 -- the interchange.
-pub replaced_nothing : (i : Bytes) (call : Call) → refusal i call ≡ 0 → replaced i (λ m k. none) ≡ i
+pub replaced_nothing : (i : Bytes) (call : Call) → refusal i call ≡ 0 → replaced i (λ m k. None) ≡ i
 replaced_nothing i call e =
     let c = clear i call e in
-    sym (rebuilt_replaced i (λ m k. none) (λ m k. tt))
+    sym (rebuilt_replaced i (λ m k. None) (λ m k. tt))
     ∙ ap (rebuilt i) (groups_own (delimiters i) (groups_in i) (made i call c))
     ∙ rebuilt_own i call c.passed
 
 -- 4. What stays.
 -- a set, and a group, without segments, where there is none
 abbrev no_set : Set
-no_set = record { header = []; body = []; trailer = none }
+no_set = record { header = []; body = []; trailer = None }
 
 abbrev absent_group : Group
-absent_group = record { header = []; body = []; trailer = none }
+absent_group = record { header = []; body = []; trailer = None }
 
 -- the numbers of a call by the face for C
 abbrev pub call_of : ℕ → ℕ → ℕ → Call
@@ -242,7 +242,7 @@ pub record GroupSpared (d : Delimiters) (n : ℕ) (g : Group) (choice : Choice) 
       ++ out d (ending (padded 4 n) (group_report d (chosen_group d choice g)))
   -- there are as many blocks, and a set that keeps its bytes has the block that it had, at its place among them
   pub counted : length (blocks_of d (chosen_group d choice g)) ≡ length (blocks_of d g)
-  pub untouched : (k : ℕ) → choice k ≡ none → get_or (blocks_of d (chosen_group d choice g)) k [] ≡ get_or (blocks_of d g) k []
+  pub untouched : (k : ℕ) → choice k ≡ None → get_or (blocks_of d (chosen_group d choice g)) k [] ≡ get_or (blocks_of d g) k []
   -- every block is what the law says of its set with what is chosen in it
   pub blocks : blocks_of d (chosen_group d choice g) ≡ map (λ r. out d (block r)) (set_reports d (table_in g.header) [] (chosen d choice (sets g)))
   -- AK9, the first segment of the ending: AK903 and the codes are the same bytes
@@ -259,7 +259,7 @@ pub record Spared (i j : Bytes) (choices : Choices) (lent lent' : Bytes) (call :
   pub since : o'.buffer ≡ in_parts_since i j lent' call
   -- there are as many 997s, and a group all of whose sets keep their bytes has the 997 that it had, at its place among them
   pub counted : length (acknowledgments_in j) ≡ length (acknowledgments_in i)
-  pub untouched : (m : ℕ) → ((k : ℕ) → choices m k ≡ none) → get_or (acknowledgments_in j) m [] ≡ get_or (acknowledgments_in i) m []
+  pub untouched : (m : ℕ) → ((k : ℕ) → choices m k ≡ None) → get_or (acknowledgments_in j) m [] ≡ get_or (acknowledgments_in i) m []
   -- in every group each set that keeps its bytes keeps its block
   pub groups : (m : ℕ) (w : Group) → m < length (groups_in i)
       → GroupSpared (delimiters i) (m + 1) (get_or (groups_in i) m w) (choices m) (get_or (acknowledgments_in i) m []) (get_or (acknowledgments_in j) m [])
@@ -300,7 +300,7 @@ Second lent' call o' j = (o' ≡ called (functional_acknowledgment j call) lent'
 module _ {i lent : Bytes} {call : Call} {o : Outcome} (p : o ≡ called (functional_acknowledgment i call) lent) (e : o.number ≡ 0) (choices : Choices)
     (f : (m k : ℕ) → Fills (delimiters i) (choices m k)) {lent' : Bytes} {o' : Outcome} where
   spared_rebuilt : Second lent' call o' (rebuilt i (chosen_in i choices)) → Spared i (rebuilt i (chosen_in i choices)) choices lent lent' call o o'
-  unfolding called Allowed
+  unfolding Allowed
   spared_rebuilt second =
       let d = delimiters i in
       let gs = groups_in i in
@@ -310,16 +310,19 @@ module _ {i lent : Bytes} {call : Call} {o : Outcome} (p : o ≡ called (functio
       let a' = answer (functional_acknowledgment j call) (length lent') in
       let left = buffer a (response i call) lent in
       let left' = buffer a' (response j call) lent' in
-      let zero : number a ≡ 0 = ap (λ (o : Outcome). o.number) (sym p) ∙ e in
+      let first_call : o ≡ outcome a left = p ∙ sym (allowed_outcome (functional_acknowledgment i call) lent a (functional_numbered i call) (refl, refl)) in
+      let second_call : o' ≡ outcome a' left' =
+      second.0 ∙ sym (allowed_outcome (functional_acknowledgment j call) lent' a' (functional_numbered j call) (refl, refl)) in
+      let zero : number a ≡ 0 = ap (λ (o : Outcome). o.number) (sym first_call) ∙ e in
       let damaged = groups_damaged d choices gs f in
       let each = made i call (clear i call (answered_clear i lent call zero)) in
       let q : OneSpoiled i j hs lent lent' call a' left left' =
       demands.spoiled i lent lent' call a a' left left' (refl, refl) zero hs damaged second.1 (refl, refl) second.2 in
       let s = q.stays in
       record {
-        answered = ap (λ (o : Outcome). o.number) second.0 ∙ q.answered;
-        before = ap (λ (o : Outcome). o.buffer) p ∙ q.before;
-        since = ap (λ (o : Outcome). o.buffer) second.0 ∙ q.since;
+        answered = ap (λ (o : Outcome). o.number) second_call ∙ q.answered;
+        before = ap (λ (o : Outcome). o.buffer) first_call ∙ q.before;
+        since = ap (λ (o : Outcome). o.buffer) second_call ∙ q.since;
         counted =
             ap (λ (bs : List Bytes). length bs) s.acknowledgments ∙ acknowledgments_counted d 1 hs ∙ groups_count d damaged
             ∙ sym (acknowledgments_counted d 1 gs);

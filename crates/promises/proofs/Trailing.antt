@@ -1,9 +1,8 @@
 -- "Empty trailing elements are left off": the last field of every segment of a response is filled.
-use Rattle.std.specs.Prelude.{if◌then◌else◌}
+use Rattle.std.specs.Prelude.{if◌then◌else◌, Option, None, Some}
 use mathlib.Core.Path.{◌≡◌, refl}
 use mathlib.Core.Bool.{Bool, true, false, ◌&&◌, not, false≢true}
 use mathlib.Core.List.{List, [], ◌∷◌, ◌++◌, map}
-use mathlib.Core.Option.{Option, none, some}
 use Prim.Native.Nat.{ℕ, suc, ◌+◌, ◌/◌, ◌%◌}
 use borrow.Author.Tests.{not-false}
 use lib.Dec.{eqb}
@@ -176,8 +175,8 @@ walk_coded d t closed p n (s ∷ ss) =
 
 notes_coded : (d : Delimiters) (t : Option Table) (s : Set) → all is_coded (notes_in d t s) ≡ true
 unfolding notes_of
-notes_coded d none s = none_coded
-notes_coded d (some t) s = all_append is_coded _ _ (segment_coded _ _ _ _) (walk_coded d t _ _ _ _)
+notes_coded d None s = none_coded
+notes_coded d (Some t) s = all_append is_coded _ _ (segment_coded _ _ _ _) (walk_coded d t _ _ _ _)
 
 text_filled : (d : Delimiters) (bs : Bytes) → text d 4 9 bs ≡ true → is_filled bs ≡ true
 unfolding text

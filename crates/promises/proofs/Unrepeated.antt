@@ -1,4 +1,5 @@
 -- Where ISA11 is no delimiter, an interchange is answered as it was before ISA11 could be one.
+use Rattle.std.specs.Prelude.{None}
 use mathlib.Core.Path.{◌≡◌, ◌∙◌}
 use mathlib.Core.Bool.{false}
 use Prim.Native.Nat.{◌<◌}
@@ -7,7 +8,6 @@ use Rattle.rules.specs.Base.{Bytes}
 use Rattle.rules.specs.Numbers.{digits, value}
 use Rattle.rules.specs.Cutting.{field, isa, repetition_in}
 use Rattle.rules.specs.Answers.{Outcome, outcome, called}
-use Rattle.rules.specs.declared.Repetition.TheVariants.{Nothing}
 use Rattle.rules.proofs.Unrepeated.{former_acknowledgment, former_interchange_acknowledgment, as_before, interchange_as_before, unused_u, unused_not_digits, unused_early}
 use Rattle.promises.proofs.Demands.{calls}
 use Rattle.promises.proofs.Agreement as agreement
@@ -26,7 +26,7 @@ pub record Unchanged (i : Bytes) (o former : Outcome) : Type 0 where
   -- where its value is below 402: shut out are code 12, another echo, and a fourth delimiter under refusal 4 in an interchange of 00401
   pub by_version : value (field (isa i) 12) < 402 → o ≡ former
 
-unchanged : (i : Bytes) {o former : Outcome} → (repetition_in i ≡ Nothing → o ≡ former) → Unchanged i o former
+unchanged : (i : Bytes) {o former : Outcome} → (repetition_in i ≡ None → o ≡ former) → Unchanged i o former
 unchanged i same = record {
   by_u = λ e. same (unused_u i e);
   by_not_digits = λ e. same (unused_not_digits i e);

@@ -1,23 +1,22 @@
 -- The first n sets of a group in the trees of their buckets: what a search finds is what is found among all of them.
+use Rattle.std.specs.Prelude.{Option, None, Some, is_none}
 use Prim.Native.Nat.{ℕ, zero, suc, ◌+◌, ◌/◌, ◌-◌, ◌<◌, ◌≤◌}
 use mathlib.Core.Path.{◌≡◌, refl, sym, ap, ◌∙◌}
-use mathlib.Core.Bool.{Bool, true, false, ◌||◌, or-true, true≢false}
-use mathlib.Core.List.{List, [], ◌∷◌, ◌++◌, map, map-append}
+use mathlib.Core.Bool.{Bool, true, false, ◌||◌, true≢false}
+use mathlib.Core.List.{List, map-append}
 use native.Mathlib.Numerals.{add-one}
 use native.Mathlib.Nat.{add-zero}
 use native.Mathlib.Omega.{arith}
-use borrow.Author.Tests.{eqb-true, eqb-false, lt-leb}
-use lib.Dec.{eqb}
+use borrow.Author.Tests.{lt-leb}
 use lib.ListN.{length, take, get_or, set, length-set}
 use lib.Seq.{take-suc, take-set-le, get_or-set_same, get_or-set_other}
 use Rattle.rules.specs.Base.{Bytes, same, any, member}
 use Rattle.rules.specs.declared.Delimiters.{Delimiters}
-use Rattle.rules.proofs.Logic.{same→eq}
-use Rattle.text.proofs.Loops.{or_false}
+use Rattle.rules.proofs.Logic.{same→eq, or_none, any_append}
+use Rattle.std.proofs.Common.{inl, inr}
+use Rattle.std.proofs.lemmas.Bool.{cases_eq, false_from_ne_true}
 use Rattle.sets.specs.Places.{control_at, controls_at}
-use Rattle.register.specs.declared.Found.{Found}
-use Rattle.register.specs.declared.Found.TheVariants.{Repeated, Free}
-use Rattle.register.specs.Trees.{bucket_of, bits_at, slot_of, walk, search, is_repeated, linked_by}
+use Rattle.register.specs.Trees.{bucket_of, bits_at, slot_of, walk, search, linked_by}
 use Rattle.register.proofs.Trees.{bucket_below, bits_below, walk_turn, walk_ends, walk_cases}
 
 -- The links lead to the sets before n alone, of all groups.
@@ -28,7 +27,7 @@ pub record Linked (links : List ℕ) (n : ℕ) : Type 0 where
 -- The same after n sets of a group, the first of which is set number first; and a search finds a number where it is one of theirs.
 pub record Entered (d : Delimiters) (body : Bytes) (first : ℕ) (starts links : List ℕ) (n : ℕ) : Type 0 where
   pub links_so : Linked links (first + n)
-  pub finds : (c : Bytes) → is_repeated (search d body first starts links c) ≡ member c (controls_at d body (take n starts))
+  pub finds : (c : Bytes) → is_none (search d body first starts links c) ≡ member c (controls_at d body (take n starts))
 
 -- 1. A search.
 -- the last set of each search that comes to a slot: one past the set that the slot belongs to, and the first for that of a bucket
@@ -38,25 +37,25 @@ owner_of first slot = first + ((slot - 1020) / 4 - first)
 owner_next : (first k b : ℕ) → first < k → b < 4 → k ≡ owner_of first (slot_of (k - 1) b)
 owner_next first k b h l = omega arith
 
-abbrev slot_in : Found → ℕ
-slot_in Repeated = 0
-slot_in (Free slot) = slot
+abbrev slot_in : Option ℕ → ℕ
+slot_in None = 0
+slot_in (Some slot) = slot
 
 -- the free slot that a search comes to: one of a bucket or of the sets before n, and its link leads nowhere
 module _ (d : Delimiters) (body : Bytes) (first : ℕ) (starts links : List ℕ) (n : ℕ) (e : Linked links n) (c : Bytes) (s : ℕ) where
   walk_free : (f slot last i : ℕ) → first ≤ last → last ≤ n → n < f + last → last ≡ owner_of first slot → slot < slot_of n 0
-      → walk f d body first starts links c slot last i ≡ Free s → (s < slot_of n 0) × (get_or links s 0 ≤ owner_of first s)
+      → walk f d body first starts links c slot last i ≡ Some s → (s < slot_of n 0) × (get_or links s 0 ≤ owner_of first s)
   walk_free zero slot last i g h k o l = absurd (omega arith)
   walk_free (suc f) slot last i g h k o l =
       let next = get_or links slot 0 in
       let most = e.linked slot in
       let bit = bits_below c i in
-      walk_cases d body first starts links c (λ (r : Found). r ≡ Free s → (s < slot_of n 0) × (get_or links s 0 ≤ owner_of first s)) f slot last i
+      walk_cases d body first starts links c (λ (r : Option ℕ). r ≡ Some s → (s < slot_of n 0) × (get_or links s 0 ≤ owner_of first s)) f slot last i
       (λ e p. rw (← ap slot_in p) (l, rw o at e))
-      (λ e q p. absurd (true≢false (ap is_repeated p)))
+      (λ e q p. absurd (true≢false (ap is_none p)))
       (λ e q. walk_free f (slot_of (next - 1) (bits_at c i)) next (i + 1) (omega arith) most (omega arith) (owner_next first next (bits_at c i) (omega arith) bit) (omega arith))
 
-  search_free : first ≤ n → n < 65536 → search d body first starts links c ≡ Free s → (s < slot_of n 0) × (get_or links s 0 ≤ owner_of first s)
+  search_free : first ≤ n → n < 65536 → search d body first starts links c ≡ Some s → (s < slot_of n 0) × (get_or links s 0 ≤ owner_of first s)
   unfolding search
   search_free g few p = let b = bucket_below c in walk_free 65536 (bucket_of c) first 0 (omega arith) g (omega arith) (omega arith) (omega arith) p
 
@@ -68,7 +67,7 @@ module _ (d : Delimiters) (body : Bytes) (first : ℕ) (starts links : List ℕ)
   walk_start (suc f) slot last i g =
       let next = get_or links slot 0 in
       let most = e.linked slot in
-      walk_cases d body first starts links c (λ (r : Found). walk (suc f) d body first (set starts n at) links c slot last i ≡ r) f slot last i
+      walk_cases d body first starts links c (λ (r : Option ℕ). walk (suc f) d body first (set starts n at) links c slot last i ≡ r) f slot last i
       (λ e. walk_ends d body first (set starts n at) links c (suc f) slot last i e)
       (λ e q. walk_turn d body first (set starts n at) links c f slot last i false true (lt-leb next last e) (rw (get_or-set_other starts n (next - 1 - first) at 0 (λ p. omega arith)) q))
       (λ e q. walk_turn d body first (set starts n at) links c f slot last i false false (lt-leb next last e) (rw (get_or-set_other starts n (next - 1 - first) at 0 (λ p. omega arith)) q) ∙ walk_start f (slot_of (next - 1) (bits_at c i)) next (i + 1) (omega arith))
@@ -82,28 +81,6 @@ entered_start {d} {body} {first} {starts} {links} {n} e at = record {
 }
 
 -- 3. Set n is entered at a free slot, or its number is there already.
-any_snoc : {A : Type 0} (p : A → Bool) (xs : List A) (x : A) → any p (xs ++ x ∷ []) ≡ p x || any p xs
-unfolding any
-any_snoc p [] x = refl
-any_snoc p (y ∷ ys) x = rw (any_snoc p ys x) (swap (p y) (p x))
-  where
-    swap : (a b : Bool) → a || (b || any p ys) ≡ b || (a || any p ys)
-    swap true true = refl
-    swap true false = refl
-    swap false b = refl
-
-or_neither : (a : Bool) → (a ≡ true → ⊥) → a || false ≡ false
-or_neither true h = absurd (h refl)
-or_neither false h = refl
-
--- by whether two numbers are the same
-compared : {A : Type 0} (a b : ℕ) → (a ≡ b → A) → ((a ≡ b → ⊥) → A) → A
-compared {A} a b here other = go _ refl
-  where
-    go : (q : Bool) → eqb a b ≡ q → A
-    go true e = here (eqb-true a b e)
-    go false e = other (eqb-false a b e)
-
 module _ (d : Delimiters) (body : Bytes) (first : ℕ) (starts links : List ℕ) (n : ℕ) (e : Entered d body first starts links n) where
   -- the number of set n
   abbrev number_of : Bytes
@@ -111,17 +88,17 @@ module _ (d : Delimiters) (body : Bytes) (first : ℕ) (starts links : List ℕ)
 
   -- one more of the first sets
   all_next : (c : Bytes) → n < length starts
-      → member c (controls_at d body (take (n + 1) starts)) ≡ same c number_of || is_repeated (search d body first starts links c)
-  unfolding controls_at
+      → member c (controls_at d body (take (n + 1) starts)) ≡ is_none (search d body first starts links c) || same c number_of
+  unfolding controls_at any
   all_next c h =
-      rw (e.finds c, add-one, take-suc starts n 0 h, map-append, any_snoc (same c) (map (control_at d body) (take n starts)) number_of)
+      rw (e.finds c, add-one, take-suc starts n 0 h, map-append, any_append (same c), or_none)
 
   -- the search for c where the link at the free slot s leads to set n; the search for its number comes to s
   module _ (s : ℕ) (inside : s < slot_of (first + n) 0) (free : get_or links s 0 ≤ owner_of first s) (room : s < length links) (c : Bytes) where
     abbrev links' : List ℕ
     links' = set links s (first + n + 1)
 
-    walk_here : (f last i : ℕ) → last ≤ first + n → is_repeated (walk (suc f) d body first starts links' c s last i) ≡ same c number_of
+    walk_here : (f last i : ℕ) → last ≤ first + n → is_none (walk (suc f) d body first starts links' c s last i) ≡ same c number_of
     walk_here f last i h =
         let bit = bits_below c i in
         let next : get_or links' s 0 ≡ first + n + 1 = get_or-set_same links s (first + n + 1) 0 room in
@@ -129,44 +106,42 @@ module _ (d : Delimiters) (body : Bytes) (first : ℕ) (starts links : List ℕ)
         let here : get_or links' s 0 - 1 - first ≡ n = omega (arith, next) in
         let none : get_or links' (slot_of (first + n) (bits_at c i)) 0 ≡ 0 =
         get_or-set_other links s (slot_of (first + n) (bits_at c i)) (first + n + 1) 0 (λ p. omega arith) ∙ e.links_so.unlinked (slot_of (first + n) (bits_at c i)) (omega arith) in
-        walk_cases d body first starts links' c (λ (r : Found). is_repeated r ≡ same c number_of) f s last i
+        walk_cases d body first starts links' c (λ (r : Option ℕ). is_none r ≡ same c number_of) f s last i
         (λ l. absurd (omega (arith, next)))
         (λ l q. sym (rw here at q))
         (λ l q. rw (k, walk_ends d body first starts links' c f (slot_of (first + n) (bits_at c i)) (get_or links' s 0) (i + 1) (omega (arith, none))) (sym (rw here at q)))
 
     walk_link : (f slot last i : ℕ) → first ≤ last → last ≤ first + n → first + n < f + last → last ≡ owner_of first slot
-        → (same c number_of ≡ true → walk f d body first starts links c slot last i ≡ Free s)
-        → is_repeated (walk f d body first starts links' c slot last i) ≡ same c number_of || is_repeated (walk f d body first starts links c slot last i)
+        → (same c number_of ≡ true → walk f d body first starts links c slot last i ≡ Some s)
+        → is_none (walk f d body first starts links' c slot last i) ≡ is_none (walk f d body first starts links c slot last i) || same c number_of
     walk_link zero slot last i g h k o = absurd (omega arith)
     walk_link (suc f) slot last i g h k o =
         let next = get_or links slot 0 in
         let most = e.links_so.linked slot in
         let bit = bits_below c i in
-        compared slot s
-        (λ here at-s. rw (here, walk_here f last i h, walk_ends d body first starts links c (suc f) s last i (omega arith)) (sym (or_false (same c number_of))))
-        (λ other.
-        let link : get_or links' slot 0 ≡ next = get_or-set_other links s slot (first + n + 1) 0 other in
-        walk_cases d body first starts links c
-        (λ (r : Found). (same c number_of ≡ true → r ≡ Free s) → is_repeated (walk (suc f) d body first starts links' c slot last i) ≡ same c number_of || is_repeated r)
-        f slot last i
-        (λ l at-s.
-        rw (walk_ends d body first starts links' c (suc f) slot last i (omega arith)) (sym (or_neither (same c number_of) (λ q. other (ap slot_in (at-s q))))))
-        (λ l q at-s.
-        rw (walk_turn d body first starts links' c f slot last i false true (rw link (lt-leb next last l)) (rw link q)) (sym (or-true (same c number_of))))
-        (λ l q at-s.
-        rw (walk_turn d body first starts links' c f slot last i false false (rw link (lt-leb next last l)) (rw link q), link)
-        (walk_link f (slot_of (next - 1) (bits_at c i)) next (i + 1) (omega arith) most (omega arith) (owner_next first next (bits_at c i) (omega arith) bit) at-s)))
+        elim (cases_eq slot s) [
+          | inl here ↦ (λ at-s. rw (here, walk_here f last i h, walk_ends d body first starts links c (suc f) s last i (omega arith)))
+          | inr other ↦ (let link : get_or links' slot 0 ≡ next = get_or-set_other links s slot (first + n + 1) 0 other in
+              walk_cases d body first starts links c
+              (λ (r : Option ℕ). (same c number_of ≡ true → r ≡ Some s) → is_none (walk (suc f) d body first starts links' c slot last i) ≡ is_none r || same c number_of)
+              f slot last i
+              (λ l at-s. rw (walk_ends d body first starts links' c (suc f) slot last i (omega arith)) (sym (false_from_ne_true (same c number_of) (λ q. other (ap slot_in (at-s q))))))
+              (λ l q at-s. rw (walk_turn d body first starts links' c f slot last i false true (rw link (lt-leb next last l)) (rw link q)))
+              (λ l q at-s.
+              rw (walk_turn d body first starts links' c f slot last i false false (rw link (lt-leb next last l)) (rw link q), link)
+              (walk_link f (slot_of (next - 1) (bits_at c i)) next (i + 1) (omega arith) most (omega arith) (owner_next first next (bits_at c i) (omega arith) bit) at-s)))
+        ]
 
   module _ (few : first + n < 65536) (in_starts : n < length starts) (in_links : slot_of (first + n) 0 ≤ length links) where
-    free_here : {s : ℕ} → search d body first starts links number_of ≡ Free s → (s < slot_of (first + n) 0) × (get_or links s 0 ≤ owner_of first s)
+    free_here : {s : ℕ} → search d body first starts links number_of ≡ Some s → (s < slot_of (first + n) 0) × (get_or links s 0 ≤ owner_of first s)
     free_here {s} p = search_free d body first starts links (first + n) e.links_so number_of s (omega arith) few p
 
-    free_inside : {s : ℕ} → search d body first starts links number_of ≡ Free s → s < length links
+    free_inside : {s : ℕ} → search d body first starts links number_of ≡ Some s → s < length links
     free_inside p = omega (arith, (free_here p).0)
 
-    entered_by : (r : Found) → r ≡ search d body first starts links number_of → Entered d body first starts (linked_by r (first + n) links) (n + 1)
+    entered_by : (r : Option ℕ) → r ≡ search d body first starts links number_of → Entered d body first starts (linked_by r (first + n) links) (n + 1)
     unfolding search
-    entered_by Repeated p = record {
+    entered_by None p = record {
       links_so = record {
         linked = λ t. omega (arith, e.links_so.linked t);
         unlinked = λ t h. e.links_so.unlinked t (omega arith);
@@ -174,12 +149,12 @@ module _ (d : Delimiters) (body : Bytes) (first : ℕ) (starts links : List ℕ)
       finds = λ c. rw (all_next c in_starts) (again c _ refl);
     }
       where
-        again : (c : Bytes) (q : Bool) → same c number_of ≡ q → is_repeated (search d body first starts links c) ≡ q || is_repeated (search d body first starts links c)
+        again : (c : Bytes) (q : Bool) → same c number_of ≡ q → is_none (search d body first starts links c) ≡ is_none (search d body first starts links c) || q
         again c true g = rw (same→eq c number_of g, ← p)
-        again c false g = refl
-    entered_by (Free s) p = record {
+        again c false g = sym (or_none (is_none (search d body first starts links c)))
+    entered_by (Some s) p = record {
       links_so = record {
-        linked = λ t. compared t s (λ h. rw h (omega (arith, here))) (λ h. omega (arith, other t h, e.links_so.linked t));
+        linked = λ t. elim (cases_eq t s) [ inl h ↦ rw h (omega (arith, here)) | inr h ↦ omega (arith, other t h, e.links_so.linked t) ];
         unlinked = λ t h. other t (λ q. omega (arith, f.0)) ∙ e.links_so.unlinked t (omega arith);
       };
       finds = λ c.
@@ -209,7 +184,7 @@ entered_none d body first starts links h = record {
 
 module _ {d : Delimiters} {body : Bytes} {first : ℕ} {starts links : List ℕ} {n : ℕ} (e : Entered d body first starts links n)
     (few : first + n < 65536) (in_starts : n < length starts) (in_links : slot_of (first + n) 0 ≤ length links)
-    (at : ℕ) (r : Found) (p : r ≡ search d body first (set starts n at) links (control_at d body at)) where
+    (at : ℕ) (r : Option ℕ) (p : r ≡ search d body first (set starts n at) links (control_at d body at)) where
   started : Entered d body first (set starts n at) links n
   started = entered_start e at
 
@@ -219,10 +194,10 @@ module _ {d : Delimiters} {body : Bytes} {first : ℕ} {starts links : List ℕ}
   found : r ≡ search d body first (set starts n at) links (control_at d body (get_or (set starts n at) n 0))
   found = rw (get_or-set_same starts n at 0 in_starts) p
 
-  pub entered_finds : is_repeated r ≡ member (control_at d body at) (controls_at d body (take n starts))
+  pub entered_finds : is_none r ≡ member (control_at d body at) (controls_at d body (take n starts))
   entered_finds = rw (p, ← take-set-le n starts n at (omega arith)) (started.finds (control_at d body at))
 
-  pub entered_inside : {s : ℕ} → r ≡ Free s → s < length links
+  pub entered_inside : {s : ℕ} → r ≡ Some s → s < length links
   entered_inside q = free_inside d body first (set starts n at) links n started few stored in_links (sym found ∙ q)
 
   pub entered_next : Entered d body first (set starts n at) (linked_by r (first + n) links) (n + 1)

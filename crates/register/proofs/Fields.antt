@@ -1,19 +1,21 @@
 -- A field of the segment at a place, byte by byte: where the next one starts, where it ends, and whether it is a given one.
 use Rattle.std.specs.Prelude.{if◌then◌else◌}
 use mathlib.Core.Path.{◌≡◌, refl, sym, ap, ◌∙◌}
-use mathlib.Core.Bool.{Bool, true, false}
+use mathlib.Core.Bool.{Bool, true, false, true≢false, ◌||◌}
 use mathlib.Core.List.{List, [], ◌∷◌, map}
 use Prim.Native.Nat.{ℕ, zero, suc, ◌+◌, ◌-◌, ◌<◌, ◌≤◌}
 use native.Mathlib.Nat.{not-suc-le-zero, add-zero, sub-zero}
 use native.Mathlib.Omega.{arith}
-use borrow.Author.Tests.{eq-eqb, ne_eqb, eqb-true, eqb-false}
+use borrow.Author.Tests.{ne_eqb, eqb-true, eqb-false}
 use lib.Dec.{eqb}
 use lib.ListN.{length, get_or, take, drop, length-take, length-drop, drop_of_length-le}
-use lib.Seq.{get_or-take, get_or-drop}
+use lib.Seq.{get_or-take, get_or-drop, drop-drop, drop-length}
+use Rattle.std.proofs.lemmas.Bool.{false_from_ne_true}
 use Rattle.rules.specs.Base.{Bytes, same}
 use Rattle.rules.specs.Cutting.{Segment, field, cut_at, split, pieces, segments}
 use Rattle.rules.specs.declared.Delimiters.{Delimiters}
 use Rattle.rules.proofs.Logic.{same→eq}
+use Rattle.rules.proofs.Accepting.{same_refl}
 use Rattle.text.proofs.Loops.{left_cons, same_lengths}
 use Rattle.sets.specs.Places.{control_at}
 use Rattle.register.specs.Fields.{field_in}
@@ -67,44 +69,76 @@ unfolding control_at segments
 control_field d body at =
     first_segment d.element 2 (pieces d.terminator (drop at body)) ∙ sym (piece_field d 2 (drop at body))
 
--- 2. At a cursor.
-module _ (d : Delimiters) (s : Bytes) (i : ℕ) where
-  pub field_past : (n : ℕ) → length s ≤ i → field_in d n (drop i s) ≡ []
+-- 2. Where the first field ends, and the fields after it.
+module _ (d : Delimiters) where
+  -- where it ends at a separator, the others start after that: r is field n + 1 where f is the first
+  abbrev Follows : ℕ → Bytes → Bytes → Bytes → Type 0
+  Follows n f bs r = length f < length bs → (get_or bs (length f) 0 ≡ d.terminator → ⊥) → r ≡ field_in d n (drop (suc (length f)) bs)
+
+  pub field_next : (n : ℕ) (bs : Bytes) → Follows n (field_in d 0 bs) bs (field_in d (suc n) bs)
   unfolding field_in
-  field_past n h = rw (drop_of_length-le s {i = i} h)
+  field_next n [] h t = absurd (omega arith)
+  field_next n (b ∷ bs) h t = go _ (eqb b d.element) refl (field_next n bs) h t
+    where
+      go : (c q : Bool) → eqb b d.terminator ≡ c → Follows n (field_in d 0 bs) bs (field_in d (suc n) bs)
+          → Follows n (if c then [] else (if q then [] else b ∷ field_in d 0 bs)) (b ∷ bs) (if c then [] else (if q then field_in d n bs else field_in d (suc n) bs))
+      go true q e r h t = absurd (t (eqb-true b d.terminator e))
+      go false true e r h t = refl
+      go false false e r h t = r (omega arith) t
+
+  -- elsewhere there is no other
+  abbrev Ends : Bytes → Bytes → Bytes → Type 0
+  Ends f bs r = (length f < length bs → get_or bs (length f) 0 ≡ d.terminator) → r ≡ []
+
+  pub field_none : (n : ℕ) (bs : Bytes) → Ends (field_in d 0 bs) bs (field_in d (suc n) bs)
+  unfolding field_in
+  field_none n [] h = refl
+  field_none n (b ∷ bs) h = go _ (eqb b d.element) refl (field_none n bs) h
+    where
+      go : (c q : Bool) → eqb b d.terminator ≡ c → Ends (field_in d 0 bs) bs (field_in d (suc n) bs)
+          → Ends (if c then [] else (if q then [] else b ∷ field_in d 0 bs)) (b ∷ bs) (if c then [] else (if q then field_in d n bs else field_in d (suc n) bs))
+      go true q e r h = refl
+      go false true e r h = absurd (eqb-false b d.terminator e (h (omega arith)))
+      go false false e r h = r (λ l. h (omega arith))
+
+-- at a cursor, where that field ends
+module _ (d : Delimiters) (s : Bytes) (at : ℕ) {end : ℕ} (e : end ≡ at + length (field_in d 0 (drop at s))) (n : ℕ) where
+  left : length (drop at s) ≡ length s - at
+  left = length-drop at s
+
+  read : get_or (drop at s) (length (field_in d 0 (drop at s))) 0 ≡ get_or s end 0
+  read = rw e (get_or-drop at s (length (field_in d 0 (drop at s))) 0)
+
+  pub field_after : end < length s → (get_or s end 0 ≡ d.terminator → ⊥) → field_in d (suc n) (drop at s) ≡ field_in d n (drop (end + 1) s)
+  field_after h t =
+      let on : at + suc (length (field_in d 0 (drop at s))) ≡ end + 1 = omega arith in
+      rw (field_next d n (drop at s) (omega (arith, left)) (rw read t), drop-drop (suc (length (field_in d 0 (drop at s)))) at s, on)
+
+  pub field_last : (end < length s → get_or s end 0 ≡ d.terminator) → field_in d (suc n) (drop at s) ≡ field_in d n (drop (length s) s)
+  unfolding field_in
+  field_last t = rw (field_none d n (drop at s) (λ h. rw read (t (omega (arith, left)))), drop-length s)
+
+-- what is left of the first field at a cursor
+module _ (d : Delimiters) (s : Bytes) (i : ℕ) where
+  pub field_past : length s ≤ i → field_in d 0 (drop i s) ≡ []
+  unfolding field_in
+  field_past h = rw (drop_of_length-le s {i = i} h)
 
   module _ (h : i < length s) where
-    -- a terminator
-    pub field_none : (n : ℕ) → get_or s i 0 ≡ d.terminator → field_in d n (drop i s) ≡ []
+    pub field_cut : (eqb (get_or s i 0) d.terminator || eqb (get_or s i 0) d.element) ≡ true → field_in d 0 (drop i s) ≡ []
     unfolding field_in
-    field_none zero p = rw (left_cons s i h, eq-eqb (get_or s i 0) d.terminator p)
-    field_none (suc n) p = rw (left_cons s i h, eq-eqb (get_or s i 0) d.terminator p)
+    field_cut p = rw (left_cons s i h) (go (eqb (get_or s i 0) d.terminator) (eqb (get_or s i 0) d.element) p)
+      where
+        go : (c q : Bool) → c || q ≡ true → (if c then [] else (if q then [] else get_or s i 0 ∷ field_in d 0 (drop (i + 1) s))) ≡ []
+        go true q p = refl
+        go false true p = refl
+        go false false p = absurd (true≢false (sym p))
 
-    module _ (t : get_or s i 0 ≡ d.terminator → ⊥) where
-      -- a separator
-      pub field_cut : get_or s i 0 ≡ d.element → field_in d 0 (drop i s) ≡ []
-      unfolding field_in
-      field_cut p = rw (left_cons s i h, ne_eqb (get_or s i 0) d.terminator t, eq-eqb (get_or s i 0) d.element p)
-
-      pub field_next : (n : ℕ) → get_or s i 0 ≡ d.element → field_in d (suc n) (drop i s) ≡ field_in d n (drop (i + 1) s)
-      unfolding field_in
-      field_next n p = rw (left_cons s i h, ne_eqb (get_or s i 0) d.terminator t, eq-eqb (get_or s i 0) d.element p)
-
-      -- another byte
-      pub field_skip : (n : ℕ) → (get_or s i 0 ≡ d.element → ⊥) → field_in d (suc n) (drop i s) ≡ field_in d (suc n) (drop (i + 1) s)
-      unfolding field_in
-      field_skip n p = rw (left_cons s i h, ne_eqb (get_or s i 0) d.terminator t, ne_eqb (get_or s i 0) d.element p)
-
-      pub field_kept : (get_or s i 0 ≡ d.element → ⊥) → field_in d 0 (drop i s) ≡ get_or s i 0 ∷ field_in d 0 (drop (i + 1) s)
-      unfolding field_in
-      field_kept p = rw (left_cons s i h, ne_eqb (get_or s i 0) d.terminator t, ne_eqb (get_or s i 0) d.element p)
+    pub field_kept : (get_or s i 0 ≡ d.terminator → ⊥) → (get_or s i 0 ≡ d.element → ⊥) → field_in d 0 (drop i s) ≡ get_or s i 0 ∷ field_in d 0 (drop (i + 1) s)
+    unfolding field_in
+    field_kept t p = rw (left_cons s i h, ne_eqb (get_or s i 0) d.terminator t, ne_eqb (get_or s i 0) d.element p)
 
 -- 3. Against a value.
-same_self : (a : Bytes) → same a a ≡ true
-unfolding same
-same_self [] = refl
-same_self (x ∷ xs) = rw (eq-eqb x x refl) (same_self xs)
-
 field_begins : (d : Delimiters) (bs : Bytes) → field_in d 0 bs ≡ take (length (field_in d 0 bs)) bs
 unfolding field_in
 field_begins d [] = refl
@@ -129,14 +163,10 @@ module _ (d : Delimiters) (s : Bytes) (at : ℕ) (value : Bytes) where
 
   -- a byte of the value is another
   pub value_differs : (k : ℕ) → k < length value → (get_or s (at + k) 0 ≡ get_or value k 0 → ⊥) → same value (field_in d 0 (drop at s)) ≡ false
-  value_differs k h differs = go (same value (field_in d 0 (drop at s))) refl
-    where
-      go : (c : Bool) → same value (field_in d 0 (drop at s)) ≡ c → c ≡ false
-      go true e =
-          let q = same→eq value (field_in d 0 (drop at s)) e in
-          let begins : value ≡ take (length value) (drop at s) = rw q (field_begins d (drop at s)) in
-          absurd (differs (sym (get_or-drop at s k 0) ∙ sym (get_or-take (length value) (drop at s) k 0 h) ∙ ap (λ (l : Bytes). get_or l k 0) (sym begins)))
-      go false e = refl
+  value_differs k h differs = false_from_ne_true _ (λ e.
+      let q = same→eq value (field_in d 0 (drop at s)) e in
+      let begins : value ≡ take (length value) (drop at s) = rw q (field_begins d (drop at s)) in
+      differs (sym (get_or-drop at s k 0) ∙ sym (get_or-take (length value) (drop at s) k 0 h) ∙ ap (λ (l : Bytes). get_or l k 0) (sym begins)))
 
   -- one turn from the value's end to its start: the bytes from k on are those of the value
   pub value_turn : (k j : ℕ) → k ≡ j + 1 → k ≤ length value → length value ≤ length s - at → get_or s (at + j) 0 ≡ get_or value j 0
@@ -155,6 +185,6 @@ module _ (d : Delimiters) (s : Bytes) (at : ℕ) (value : Bytes) where
       go true e =
           let size : length (field_in d 0 (drop at s)) ≡ length value = omega (arith, eqb-true (at + length (field_in d 0 (drop at s))) (at + length value) e) in
           let whole : field_in d 0 (drop at s) ≡ value = field_begins d (drop at s) ∙ ap (λ (n : ℕ). take n (drop at s)) size ∙ sym (rw (sub-zero, add-zero) at r) in
-          rw whole (same_self value)
+          rw whole (same_refl value)
       go false e = same_lengths value (field_in d 0 (drop at s)) (λ q. eqb-false _ _ e (ap (λ (n : ℕ). at + n) (sym q)))
   value_ends (suc k) h r = absurd (not-suc-le-zero h)

@@ -1,4 +1,5 @@
 -- What one turn of each loop does: of the reading of a bucket, and of the search along the links of a tree.
+use Rattle.std.specs.Prelude.{Option, None, Some}
 use Prim.Native.Nat.{ℕ, zero, suc, ◌+◌, ◌*◌, ◌%◌, ◌-◌, ◌<◌, ◌≤◌}
 use mathlib.Core.Path.{◌≡◌, refl}
 use mathlib.Core.Bool.{Bool, true, false}
@@ -12,8 +13,6 @@ use Rattle.rules.specs.Base.{Bytes, same}
 use Rattle.rules.specs.declared.Delimiters.{Delimiters}
 use Rattle.text.proofs.Loops.{left_cons}
 use Rattle.sets.specs.Places.{control_at}
-use Rattle.register.specs.declared.Found.{Found}
-use Rattle.register.specs.declared.Found.TheVariants.{Repeated, Free}
 use Rattle.register.specs.Trees.{bucket_from, bucket_of, bits_at, slot_of, found_at, walk}
 
 -- 1. Buckets and bits.
@@ -49,14 +48,14 @@ module _ (d : Delimiters) (body : Bytes) (first : ℕ) (starts links : List ℕ)
   walk_turn f slot last i p q e g = rw (e, g)
 
   -- a link that leads nowhere
-  pub walk_ends : (f slot last i : ℕ) → get_or links slot 0 ≤ last → walk f d body first starts links c slot last i ≡ Free slot
+  pub walk_ends : (f slot last i : ℕ) → get_or links slot 0 ≤ last → walk f d body first starts links c slot last i ≡ Some slot
   unfolding walk
   walk_ends zero slot last i h = refl
   walk_ends (suc f) slot last i h = rw (le-leb (get_or links slot 0) last h)
 
   -- what holds in each of the three cases holds
-  pub walk_cases : (P : Found → Type 0) (f slot last i : ℕ) → (get_or links slot 0 ≤ last → P (Free slot))
-      → (last < get_or links slot 0 → same c (control_at d body (get_or starts (get_or links slot 0 - 1 - first) 0)) ≡ true → P Repeated)
+  pub walk_cases : (P : Option ℕ → Type 0) (f slot last i : ℕ) → (get_or links slot 0 ≤ last → P (Some slot))
+      → (last < get_or links slot 0 → same c (control_at d body (get_or starts (get_or links slot 0 - 1 - first) 0)) ≡ true → P None)
       → (last < get_or links slot 0 → same c (control_at d body (get_or starts (get_or links slot 0 - 1 - first) 0)) ≡ false
       → P (walk f d body first starts links c (slot_of (get_or links slot 0 - 1) (bits_at c i)) (get_or links slot 0) (i + 1)))
       → P (walk (suc f) d body first starts links c slot last i)

@@ -3,13 +3,13 @@ use mathlib.Core.Path.{◌≡◌, refl, sym, ap, ◌∙◌}
 use mathlib.Core.Logic.{◌⊎◌, inl, inr, ◌↔◌}
 use mathlib.Core.Bool.{Bool, true, false, ◌||◌, false≢true, true≢false}
 use mathlib.Core.List.{List, [], ◌∷◌, ◌++◌}
-use mathlib.Core.Option.{Option, none, some}
+use Rattle.std.specs.Prelude.{Option, None, Some, is_none}
 use Prim.Native.Nat.{ℕ, zero, suc, ◌+◌, ◌≤◌, ◌<◌}
 use native.Mathlib.Omega.{arith}
 use native.Mathlib.Nat.{not-suc-le-zero, le_of_suc-le-suc}
 use borrow.Author.Tests.{not-false, eqb-true, eq-eqb}
 use lib.ListN.{length, take, get_or}
-use Rattle.rules.specs.Base.{Bytes, Rule, ◌⇒◌, every, ascii, same, any, member, null, is_none, keep}
+use Rattle.rules.specs.Base.{Bytes, Rule, ◌⇒◌, every, ascii, same, any, member, null, keep}
 use Rattle.rules.specs.Cutting.{Segment, field}
 use Rattle.rules.specs.Numbers.{digits, value, count_in, declares, decimal}
 use Rattle.rules.specs.Tables.{Table, table006010, table004010, edition_table, set_table}
@@ -59,7 +59,7 @@ pub record Supported (gs : Segment) (s : Set) (t : Table) : Type 0 where
   pub gs08 : Chooses (take 6 (field gs 8)) t
   pub st01 : field s.header 1 ≡ ascii "990"
 
-chooses : {e : Bytes} {t : Table} → Chooses e t → edition_table e ≡ some t
+chooses : {e : Bytes} {t : Table} → Chooses e t → edition_table e ≡ Some t
 unfolding edition_table same
 chooses six = refl
 chooses four = refl
@@ -80,8 +80,8 @@ one_of_two a e = go (same a (ascii "GF")) (same a (ascii "SM")) refl refl
 
 -- what holds of a table where there is one
 abbrev With : (Table → Type 0) → Option Table → Type 0
-With P none = ⊥
-With P (some t) = P t
+With P None = ⊥
+With P (Some t) = P t
 
 edition_chooses : (e : Bytes) → is_none (edition_table e) ≡ false → With (Chooses e) (edition_table e)
 unfolding edition_table
@@ -102,13 +102,13 @@ table_supported gs s h = go (supported gs) (same (field s.header 1) (ascii "990"
         carry (edition_table (edition gs)) (edition_chooses (edition gs) (rw (p, q) at h)))
       where
         carry : (o : Option Table) → With (Chooses (edition gs)) o → With (Supported gs s) o
-        carry none w = w
-        carry (some t) w = record { gs01 = one_of_two (field gs 1) p; gs08 = w; st01 = same→eq (field s.header 1) (ascii "990") q }
+        carry None w = w
+        carry (Some t) w = record { gs01 = one_of_two (field gs 1) p; gs08 = w; st01 = same→eq (field s.header 1) (ascii "990") q }
     go true false p q = absurd (true≢false (rw (p, q) at h))
     go false c p q = absurd (true≢false (rw p at h))
 
 -- A program that has no table for a set that is supported, or the other edition's, is shut out.
-pub supported_table : (gs : Segment) (s : Set) (t : Table) → Supported gs s t → table_in gs s ≡ some t
+pub supported_table : (gs : Segment) (s : Set) (t : Table) → Supported gs s t → table_in gs s ≡ Some t
 unfolding table_in set_table same
 supported_table gs s t k = rw (two_names (field gs 1) k.gs01, k.st01, chooses k.gs08)
 
@@ -130,20 +130,20 @@ set_as h b tr = record { header = h; body = b; trailer = tr }
 
 -- what is left of the six tests where there is a table and a trailer
 abbrev Passed : Delimiters → Option Table → List Bytes → Segment → List Segment → Option Segment → Type 0
-Passed d none es h b tr = ⊥
-Passed d (some t) es h b none = ⊥
-Passed d (some t) es h b (some se) =
+Passed d None es h b tr = ⊥
+Passed d (Some t) es h b None = ⊥
+Passed d (Some t) es h b (Some se) =
     (field se 2 ≡ field h 2)
     × (declares 10 (field se 1) (length (h ∷ (b ++ se ∷ []))) ≡ true)
-    × (notes_in d (some t) (set_as h b (some se)) ≡ [])
+    × (notes_in d (Some t) (set_as h b (Some se)) ≡ [])
     × (member (field h 2) es ≡ false)
 
 passed : (d : Delimiters) (t : Option Table) (es : List Bytes) (h : Segment) (b : List Segment) (tr : Option Segment)
     → accepted (set_report d t es (set_as h b tr)) ≡ true → Passed d t es h b tr
 unfolding set_report set_codes
-passed d none es h b tr e = absurd (true≢false ((none_given _).0 e).0)
-passed d (some t) es h b none e = absurd (true≢false ((none_given _).0 e).1.0)
-passed d (some t) es h b (some se) e =
+passed d None es h b tr e = absurd (true≢false ((none_given _).0 e).0)
+passed d (Some t) es h b None e = absurd (true≢false ((none_given _).0 e).1.0)
+passed d (Some t) es h b (Some se) e =
     let s = (none_given _).0 e in (
       same→eq (field se 2) (field h 2) (not-false _ s.1.1.0),
       not-false _ s.1.1.1.0,
@@ -154,9 +154,9 @@ passed d (some t) es h b (some se) e =
 passes : (d : Delimiters) (t : Option Table) (es : List Bytes) (h : Segment) (b : List Segment) (tr : Option Segment)
     → Passed d t es h b tr → accepted (set_report d t es (set_as h b tr)) ≡ true
 unfolding set_report set_codes every
-passes d none es h b tr p = absurd p
-passes d (some t) es h b none p = absurd p
-passes d (some t) es h b (some se) p = rw (p.0, same_refl (field h 2), p.1, p.2, p.3)
+passes d None es h b tr p = absurd p
+passes d (Some t) es h b None p = absurd p
+passes d (Some t) es h b (Some se) p = rw (p.0, same_refl (field h 2), p.1, p.2, p.3)
 
 -- 4. What document 01 asks of a set, each of its six tests the other way round; earlier are the sets of the group before it.
 pub record Sound (d : Delimiters) (gs : Segment) (earlier : List Set) (s : Set) : Type 0 where
@@ -165,14 +165,14 @@ pub record Sound (d : Delimiters) (gs : Segment) (earlier : List Set) (s : Set) 
   pub known : Supported gs s table
   -- 2: the trailer is there
   pub se : Segment
-  pub closed : s.trailer ≡ some se
+  pub closed : s.trailer ≡ Some se
   -- 3: SE02 is ST02
   pub se02 : field se 2 ≡ field s.header 2
   -- 4: SE01 is 1 to 10 digits, and their value is the number of segments from ST to SE
   pub se01 : digits 1 10 (field se 1) ≡ true
   pub counted : value (field se 1) ≡ length (s.header ∷ (s.body ++ se ∷ []))
   -- 5: there is no AK3 from ST to SE
-  pub unnoted : notes_in d (some table) s ≡ []
+  pub unnoted : notes_in d (Some table) s ≡ []
   -- 23: no earlier set has its ST02
   pub unique : (j : ℕ) → j < length earlier → field (get_or earlier j s).header 2 ≡ field s.header 2 → ⊥
 
@@ -205,9 +205,9 @@ module _ (d : Delimiters) (gs : Segment) (earlier : List Set) (controls : List B
     where
       go : (t : Option Table) → table_in gs s ≡ t → (tr : Option Segment) → s.trailer ≡ tr
           → Passed d t controls s.header s.body tr → Sound d gs earlier s
-      go none p tr q h = absurd h
-      go (some t) p none q h = absurd h
-      go (some t) p (some se) q h =
+      go None p tr q h = absurd h
+      go (Some t) p None q h = absurd h
+      go (Some t) p (Some se) q h =
           let n = (declares_value 10 (field se 1) (length (s.header ∷ (s.body ++ se ∷ [])))).0 h.1 in
           record {
             table = t;
@@ -217,7 +217,7 @@ module _ (d : Delimiters) (gs : Segment) (earlier : List Set) (controls : List B
             se02 = h.0;
             se01 = n.0;
             counted = n.1;
-            unnoted = ap (λ (tr : Option Segment). notes_in d (some t) (set_as s.header s.body tr)) q ∙ h.2;
+            unnoted = ap (λ (tr : Option Segment). notes_in d (Some t) (set_as s.header s.body tr)) q ∙ h.2;
             unique = unique_there s earlier (sym m ∙ h.3);
           }
 
@@ -226,13 +226,13 @@ module _ (d : Delimiters) (gs : Segment) (earlier : List Set) (controls : List B
       rw (supported_table gs s h.table h.known)
       (go s.trailer h.closed)
     where
-      go : (tr : Option Segment) → tr ≡ some h.se → accepted (set_report d (some h.table) controls (set_as s.header s.body tr)) ≡ true
+      go : (tr : Option Segment) → tr ≡ Some h.se → accepted (set_report d (Some h.table) controls (set_as s.header s.body tr)) ≡ true
       go tr q =
           rw q
-          (passes d (some h.table) controls s.header s.body (some h.se) (
+          (passes d (Some h.table) controls s.header s.body (Some h.se) (
             h.se02,
             (declares_value 10 (field h.se 1) (length (s.header ∷ (s.body ++ h.se ∷ [])))).1 (h.se01, h.counted),
-            ap (λ (tr : Option Segment). notes_in d (some h.table) (set_as s.header s.body tr)) (sym h.closed) ∙ h.unnoted,
+            ap (λ (tr : Option Segment). notes_in d (Some h.table) (set_as s.header s.body tr)) (sym h.closed) ∙ h.unnoted,
             m ∙ unique_back s earlier h.unique,
           ))
 
@@ -352,10 +352,10 @@ unfolding set_report set_codes
 four_codes d t controls s = go t s.trailer refl
   where
     go : (t : Option Table) (tr : Option Segment) → s.trailer ≡ tr → length (set_report d t controls s).codes ≤ 4
-    go none none q = rw q (four_of_six _ _ _ _ _ _ _ _ _ _ _ _ (inr refl) (inr refl) (inr refl))
-    go none (some se) q = rw q (four_of_six _ _ _ _ _ _ _ _ _ _ _ _ (inr refl) (inl refl) (inl refl))
-    go (some t) none q = rw q (four_of_six _ _ _ _ _ _ _ _ _ _ _ _ (inl refl) (inr refl) (inr refl))
-    go (some t) (some se) q = rw q (four_of_six _ _ _ _ _ _ _ _ _ _ _ _ (inl refl) (inl refl) (inl refl))
+    go None None q = rw q (four_of_six _ _ _ _ _ _ _ _ _ _ _ _ (inr refl) (inr refl) (inr refl))
+    go None (Some se) q = rw q (four_of_six _ _ _ _ _ _ _ _ _ _ _ _ (inr refl) (inl refl) (inl refl))
+    go (Some t) None q = rw q (four_of_six _ _ _ _ _ _ _ _ _ _ _ _ (inl refl) (inr refl) (inr refl))
+    go (Some t) (Some se) q = rw q (four_of_six _ _ _ _ _ _ _ _ _ _ _ _ (inl refl) (inl refl) (inl refl))
 
 -- 8. The number of sets.
 sets_counted : (ss : List Segment) → length (sets_of ss) ≡ length (keep is_st ss)

@@ -1,10 +1,9 @@
 -- Each group of an answered interchange, alone in its interchange, is answered too, and its 997 is the same but for ST02 and SE02. An
 -- interchange that passes 1 to 8 is refused for what its first group that is refused alone is refused for.
-use Rattle.std.specs.Prelude.{if◌then◌else◌}
+use Rattle.std.specs.Prelude.{if◌then◌else◌, is_none, None, Some}
 use mathlib.Core.Path.{◌≡◌, refl, sym, ◌∙◌, ap, subst}
 use mathlib.Core.Bool.{Bool, true, false, ◌&&◌, not, false≢true}
 use mathlib.Core.List.{List, [], ◌∷◌, ◌++◌, map, append-nil, append_assoc}
-use mathlib.Core.Option.{none, some}
 use Prim.Native.Nat.{ℕ, zero, suc, ◌+◌, ◌≤◌, ◌<◌, suc-le-suc}
 use native.Mathlib.Nat.{not-suc-le-zero, le_of_suc-le-suc}
 use native.Mathlib.Omega.{arith}
@@ -12,7 +11,7 @@ use borrow.Author.Tests.{not-true, eqb-true, eq-eqb, le-leb, leb-true}
 use lib.Dec.{T, leb, eqb}
 use lib.ListN.{length, take, get_or, length-append}
 use lib.Seq.{take_at, length-take-le}
-use Rattle.rules.specs.Base.{Bytes, Rule, ◌⇒◌, ascii, same, all, is_none, is_digit, last, holds, member, between, first}
+use Rattle.rules.specs.Base.{Bytes, Rule, ◌⇒◌, ascii, same, all, is_digit, last, holds, member, between, first}
 use Rattle.rules.specs.Cutting.{Segment, field, is_named, segments, isa, delimiters, repetition_mark, marks, valid}
 use Rattle.rules.specs.Numbers.{digits, value, value_from, count_in, declares, padded, decimal}
 use Rattle.rules.specs.Groups.{Group, groups_of, group_report}
@@ -186,7 +185,7 @@ declared_some : (bs : Bytes) (n : ℕ) → declares 5 bs n ≡ true → 1 ≤ le
 unfolding count_in digits
 declared_some bs n e = go (digits 1 5 bs) refl e
   where
-    go : (b : Bool) → digits 1 5 bs ≡ b → holds (eqb n) (if b then some (value bs) else none) ≡ true → 1 ≤ length bs
+    go : (b : Bool) → digits 1 5 bs ≡ b → holds (eqb n) (if b then Some (value bs) else None) ≡ true → 1 ≤ length bs
     go true q e = leb-true 1 (length bs) (and_left (leb 1 (length bs)) (leb (length bs) 5) (and_left (between 1 5 (length bs)) (all is_digit bs) q))
     go false q e = absurd (false≢true e)
 

@@ -1,15 +1,14 @@
 -- The response to an interchange of at most 65,536 bytes, refused or not, has less than 2^42 bytes, over tables within a named limit.
-use Rattle.std.specs.Prelude.{if◌then◌else◌}
+use Rattle.std.specs.Prelude.{if◌then◌else◌, option_to_list, is_none, Option, None, Some}
 use Prim.Native.Nat.{ℕ, zero, suc, ◌+◌, ◌*◌, ◌≤◌, ◌<◌}
 use mathlib.Core.Path.{◌≡◌, refl}
 use mathlib.Core.Bool.{Bool, true, false, ◌&&◌, ◌||◌, not}
 use mathlib.Core.List.{List, [], ◌∷◌, ◌++◌, map}
-use mathlib.Core.Option.{Option, none, some}
 use native.Mathlib.Omega.{arith}
 use lib.Dec.{leb, ltb, eqb}
 use lib.ListN.{length, take, drop, get_or, length-append}
 use borrow.Author.Tests.{leb-true}
-use Rattle.rules.specs.Base.{Bytes, Rule, ◌⇒◌, every, null, all, keep, push, front, last, is_none, listed, is_upper_or_digit, ascii, same}
+use Rattle.rules.specs.Base.{Bytes, Rule, ◌⇒◌, every, null, all, keep, push, front, last, is_upper_or_digit, ascii, same}
 use Rattle.rules.specs.Cutting.{Segment, field, delimiters, cut_at, split, pieces, segments}
 use Rattle.rules.specs.Numbers.{padded}
 use Rattle.rules.specs.Tables.{Row, Syntax, Entry, Table, edition_table, set_table, table006010, table004010, st_rows, st_rows6, se_rows, b1_rows, l11_rows, k1_rows}
@@ -37,8 +36,8 @@ abbrev pub Limited : Table → Type 0
 Limited t = load t.entries ≤ limit
 
 abbrev pub load_in : Option Table → ℕ
-load_in none = 0
-load_in (some t) = load t.entries
+load_in None = 0
+load_in (Some t) = load t.entries
 
 -- the tables of document 01 are limited
 pub edition_table_limited : (edition : Bytes) → load_in (edition_table edition) ≤ limit
@@ -194,22 +193,22 @@ module _ (d : Delimiters) where
 abbrev per_set : ℕ
 per_set = 10920300
 
-listed_short : (o : Option Segment) → length (listed o) ≤ 1
-listed_short none = omega arith
-listed_short (some s) = omega arith
+listed_short : (o : Option Segment) → length (option_to_list o) ≤ 1
+listed_short None = omega arith
+listed_short (Some s) = omega arith
 
 module _ (d : Delimiters) where
   notes_in_short : (t : Option Table) → load_in t ≤ limit → (s : Set) → length (out d (ak3s (notes_in d t s))) ≤ per_segment * (length s.body + 3)
   unfolding notes_of ak3s out
-  notes_in_short none h s = omega arith
-  notes_in_short (some t) h s =
+  notes_in_short None h s = omega arith
+  notes_in_short (Some t) h s =
       simp ak3s_append
       (omega (
         arith,
         segment_note_short d 1 0 (field s.header 0) (findings d (entry_at t 0) s.header),
         entry_short d t 0 s.header,
-        walk_short d t h (not (is_none s.trailer)) (record { index = 0; used = 1 }) 2 (s.body ++ listed s.trailer),
-        length-append s.body (listed s.trailer),
+        walk_short d t h (not (is_none s.trailer)) (record { index = 0; used = 1 }) 2 (s.body ++ option_to_list s.trailer),
+        length-append s.body (option_to_list s.trailer),
         listed_short s.trailer,
       ))
 

@@ -2,7 +2,7 @@
 use mathlib.Core.Path.{◌≡◌, refl, sym, ◌∙◌, ap, subst}
 use mathlib.Core.Bool.{Bool, true, false, ◌&&◌, false≢true}
 use mathlib.Core.List.{List, [], ◌∷◌, ◌++◌, map, append-nil, append_assoc}
-use mathlib.Core.Option.{Option}
+use Rattle.std.specs.Prelude.{Option, Ok, option_to_list}
 use Prim.Native.Nat.{ℕ, zero, suc, ◌+◌, ◌≤◌, ◌<◌}
 use native.Mathlib.Omega.{arith}
 use native.Mathlib.Nat.{not-suc-le-zero, le_of_suc-le-suc}
@@ -10,7 +10,7 @@ use borrow.Author.Tests.{le-leb, eqb-true}
 use lib.Dec.{eqb}
 use lib.ListN.{length, take, drop, get_or, take-append-drop, length-append}
 use lib.Seq.{take_at, length-take-le}
-use Rattle.rules.specs.Base.{Bytes, ascii, all, null, last, listed, between, first}
+use Rattle.rules.specs.Base.{Bytes, ascii, all, null, last, between, first}
 use Rattle.rules.specs.Cutting.{Segment, is_named, delimiters, isa, pieces, segments}
 use Rattle.rules.specs.Numbers.{padded}
 use Rattle.rules.specs.Sets.{Set, control_of, set_report, SetReport, outside}
@@ -18,11 +18,11 @@ use Rattle.rules.specs.Tables.{Table}
 use Rattle.rules.specs.Groups.{Group, groups_of, sets, table_in, set_reports, group_codes, GroupReport, group_report}
 use Rattle.rules.specs.Refusals.{has_isa, good_st, head_rules, end_rules, is_whole_group, enveloped, envelope_rules, set_rules, group_rules, groups_rules, refusal_rules, refusal}
 use Rattle.rules.specs.Response.{fields_out, segment_out, out, block, blocks, ak1, ak9, se_out, told, transaction_set, transaction_sets, first_header, respond, response}
-use Rattle.rules.specs.Answers.{functional_acknowledgment, answer, number, buffer}
+use Rattle.rules.specs.Refused.{refused}
+use Rattle.rules.proofs.Facts.{numbered_refusal}
+use Rattle.rules.specs.Answers.{functional_acknowledgment, Answer, answer, number, buffer}
 use Rattle.rules.specs.Damage.{is_whole, is_inner, is_filling, Damaged, done, kept, spoiled, refilled, flat, with_sets, DamagedGroups, no_group, next_group, groups_in, flat_groups, rebuilt, opening, closing, acknowledgment_of, acknowledgments_from, acknowledgments_in, beginning, ending, blocks_of, joined, GroupStays, Stays}
 use Rattle.rules.specs.declared.Call.{Call}
-use Rattle.rules.specs.declared.Answer.{Answer}
-use Rattle.rules.specs.declared.Answer.TheVariants.{Written}
 use Rattle.rules.specs.declared.Delimiters.{Delimiters}
 use Rattle.rules.proofs.Logic.{and_left, and_right, all_head, all_tail, all_cons, all_append, all_left, all_right, all_weaken, last_snoc, Each}
 use Rattle.rules.proofs.Cuts.{segments_out, segments_whole, out_segments, out_append}
@@ -42,27 +42,27 @@ module _ (d : Delimiters) where
 
   -- the segments of a set and of those after it are whole
   module _ (s : Set) (ss : List Set) (e : all (is_whole d) (flat (s ∷ ss)) ≡ true) where
-    after_header : all (is_whole d) (s.body ++ (listed s.trailer ++ flat ss)) ≡ true
+    after_header : all (is_whole d) (s.body ++ (option_to_list s.trailer ++ flat ss)) ≡ true
     unfolding flat
-    after_header = all_tail (is_whole d) s.header (s.body ++ (listed s.trailer ++ flat ss)) e
+    after_header = all_tail (is_whole d) s.header (s.body ++ (option_to_list s.trailer ++ flat ss)) e
 
-    after_body : all (is_whole d) (listed s.trailer ++ flat ss) ≡ true
-    after_body = all_right (is_whole d) s.body (listed s.trailer ++ flat ss) after_header
+    after_body : all (is_whole d) (option_to_list s.trailer ++ flat ss) ≡ true
+    after_body = all_right (is_whole d) s.body (option_to_list s.trailer ++ flat ss) after_header
 
     rest_whole : all (is_whole d) (flat ss) ≡ true
-    rest_whole = all_right (is_whole d) (listed s.trailer) (flat ss) after_body
+    rest_whole = all_right (is_whole d) (option_to_list s.trailer) (flat ss) after_body
 
     body_whole : all (is_whole d) s.body ≡ true
-    body_whole = all_left (is_whole d) s.body (listed s.trailer ++ flat ss) after_header
+    body_whole = all_left (is_whole d) s.body (option_to_list s.trailer ++ flat ss) after_header
 
     refill_whole : (body : List Segment) (ts : List Set) → all (is_whole d) body ≡ true → all (is_whole d) (flat ts) ≡ true
         → all (is_whole d) (flat (refilled s body ∷ ts)) ≡ true
     unfolding flat
     refill_whole body ts b f =
         let w = is_whole d in
-        all_cons w s.header (body ++ (listed s.trailer ++ flat ts)) (all_head w s.header (s.body ++ (listed s.trailer ++ flat ss)) e)
-        (all_append w body (listed s.trailer ++ flat ts) b
-        (all_append w (listed s.trailer) (flat ts) (all_left w (listed s.trailer) (flat ss) after_body) f))
+        all_cons w s.header (body ++ (option_to_list s.trailer ++ flat ts)) (all_head w s.header (s.body ++ (option_to_list s.trailer ++ flat ss)) e)
+        (all_append w body (option_to_list s.trailer ++ flat ts) b
+        (all_append w (option_to_list s.trailer) (flat ts) (all_left w (option_to_list s.trailer) (flat ss) after_body) f))
 
   damaged_whole : {ss ts : List Set} → Damaged d ss ts → all (is_whole d) (flat ss) ≡ true → all (is_whole d) (flat ts) ≡ true
   damaged_whole done e = e
@@ -260,14 +260,14 @@ module _ (d : Delimiters) where
   groups_whole no_group m e = e
   groups_whole (next_group {g} {gs} {hs} after r rs) m e =
       let w = is_whole d in
-      let rest = g.body ++ (listed g.trailer ++ flat_groups gs) in
+      let rest = g.body ++ (option_to_list g.trailer ++ flat_groups gs) in
       let tail = all_tail w g.header rest e in
-      let end = all_right w g.body (listed g.trailer ++ flat_groups gs) tail in
-      all_cons w g.header (flat after ++ (listed g.trailer ++ flat_groups hs)) (all_head w g.header rest e)
-      (all_append w (flat after) (listed g.trailer ++ flat_groups hs)
-      (damaged_whole d r (subst (λ (l : List Segment). all w l ≡ true) m.0.body (all_left w g.body (listed g.trailer ++ flat_groups gs) tail)))
-      (all_append w (listed g.trailer) (flat_groups hs) (all_left w (listed g.trailer) (flat_groups gs) end)
-      (groups_whole rs m.1 (all_right w (listed g.trailer) (flat_groups gs) end))))
+      let end = all_right w g.body (option_to_list g.trailer ++ flat_groups gs) tail in
+      all_cons w g.header (flat after ++ (option_to_list g.trailer ++ flat_groups hs)) (all_head w g.header rest e)
+      (all_append w (flat after) (option_to_list g.trailer ++ flat_groups hs)
+      (damaged_whole d r (subst (λ (l : List Segment). all w l ≡ true) m.0.body (all_left w g.body (option_to_list g.trailer ++ flat_groups gs) tail)))
+      (all_append w (option_to_list g.trailer) (flat_groups hs) (all_left w (option_to_list g.trailer) (flat_groups gs) end)
+      (groups_whole rs m.1 (all_right w (option_to_list g.trailer) (flat_groups gs) end))))
 
 -- 5. Two interchanges that differ in the sets of their groups alone: what they have in common.
 record Spoiled (i j : Bytes) (before after : List Group) : Type 0 where
@@ -442,10 +442,10 @@ answered_clear i lent call e = go (eqb (refusal i call) 0) refl
   where
     go : (b : Bool) → eqb (refusal i call) 0 ≡ b → refusal i call ≡ 0
     go true p = eqb-true (refusal i call) 0 p
-    go false p = rw p at e
+    go false p = absurd (numbered_refusal (refused (refusal i call)) (rw p at e))
 
 pub answer_written : (i lent : Bytes) (call : Call) → refusal i call ≡ 0
-    → length (response i call) ≤ length lent → answer (functional_acknowledgment i call) (length lent) ≡ Written (length (response i call))
+    → length (response i call) ≤ length lent → answer (functional_acknowledgment i call) (length lent) ≡ Ok (length (response i call))
 unfolding answer
 answer_written i lent call e fits =
     rw (e, le-leb (length (response i call)) (length lent) fits)

@@ -1,9 +1,8 @@
 -- The law of the echo: what the findings of a segment show of its elements, over any table; and in the notes of a set, of which segment.
-use Rattle.std.specs.Prelude.{if◌then◌else◌}
+use Rattle.std.specs.Prelude.{if◌then◌else◌, Option, None, Some}
 use mathlib.Core.Path.{◌≡◌, refl, sym, ap, ◌∙◌}
 use mathlib.Core.Bool.{Bool, true, false, ◌&&◌, ◌||◌, not, false≢true, true≢false}
 use mathlib.Core.List.{List, [], ◌∷◌, ◌++◌, map}
-use mathlib.Core.Option.{Option, none, some}
 use Prim.Native.Nat.{ℕ, zero, suc, ◌+◌, ◌≤◌, ◌<◌}
 use native.Mathlib.Nat.{le_refl}
 use native.Mathlib.Omega.{arith}
@@ -351,8 +350,8 @@ module _ (d : Delimiters) where
   -- from the segment before or after is shut out.
   pub notes_point : (t : Option Table) (s : Set) → Each (Points d 1 (segments_of s)) (notes_in d t s)
   unfolding notes_of
-  notes_point none s = each_none _
-  notes_point (some t) s =
+  notes_point None s = each_none _
+  notes_point (Some t) s =
       each_append (Points d 1 (segments_of s)) _ _
       (segment_points 1 0 _ s.header _ _ (echo_law d (entry_at t 0) s.header))
       (onward 1 s.header _ _ (walk_points t _ _ 2 _))

@@ -1,9 +1,8 @@
 -- Laws of the envelope: what is read of ISA lies in its 106 bytes, and an interchange that is not refused has the parts that it should.
-use Rattle.std.specs.Prelude.{if◌then◌else◌}
+use Rattle.std.specs.Prelude.{if◌then◌else◌, None, Some}
 use mathlib.Core.Path.{◌≡◌, refl, sym, ◌∙◌, ap}
 use mathlib.Core.Bool.{Bool, true, false, ◌&&◌, ◌||◌, not, false≢true}
 use mathlib.Core.List.{List, [], ◌∷◌, ◌++◌, map, append-nil, append_assoc}
-use mathlib.Core.Option.{none, some}
 use Prim.Native.Nat.{ℕ, suc, ◌+◌, ◌≤◌, ◌<◌}
 use native.Mathlib.Omega.{arith}
 use native.Mathlib.Numerals.{add-one}
@@ -19,7 +18,6 @@ use Rattle.rules.specs.Refusals.{good_call, call_rules, has_isa, is_whole_group,
 use Rattle.rules.specs.Damage.{flat, groups_in, flat_groups, free}
 use Rattle.rules.specs.declared.Call.{Call}
 use Rattle.rules.specs.declared.Delimiters.{Delimiters}
-use Rattle.rules.specs.declared.Repetition.TheVariants.{Nothing, By}
 use Rattle.rules.proofs.Logic.{and_left, and_right, or_left, or_right, all_head, all_tail, all_cons, all_append, all_left, all_right, all_weaken, same→eq, front_last, front_snoc, last_snoc, numbered, first_append_none, Silent, silent, Each}
 use Rattle.rules.proofs.Cuts.{pieces_step, valid_apart}
 use Rattle.rules.proofs.Facts.{groups_numbers}
@@ -137,8 +135,8 @@ free_other t b n = rw (ne_eqb b t (λ e. eqb-false t b (or_left (eqb t b) false 
 
 -- a byte that is neither in the fields that are text nor the repetition separator is in no field
 texts_free : (t : ℕ) (i : Bytes) → 106 ≤ length i → (c : Bool)
-    → any (eqb t) (repetition_mark (if c then By (get_or i 82 0) else Nothing)) ≡ false
-    → all (free t) (text_fields (if c then By (get_or i 82 0) else Nothing) (isa i)) ≡ true → all (free t) (isa i) ≡ true
+    → any (eqb t) (repetition_mark (if c then Some (get_or i 82 0) else None)) ≡ false
+    → all (free t) (text_fields (if c then Some (get_or i 82 0) else None) (isa i)) ≡ true → all (free t) (isa i) ≡ true
 texts_free t i l false n e = e
 texts_free t i l true n e =
     let s = isa i in
@@ -273,8 +271,8 @@ unfolding refusal refusal_rules
 clear i call e =
     let d = delimiters i in
     let gs = groups_in i in
-    let none = first_append_none (to_eight i call) (groups_rules d gs) (eight_numbers i call) e in
-    record { passed = passed i call none.0; groups = groups_silent d gs (silent (groups_rules d gs) (groups_numbers d gs) none.1) }
+    let absent = first_append_none (to_eight i call) (groups_rules d gs) (eight_numbers i call) e in
+    record { passed = passed i call absent.0; groups = groups_silent d gs (silent (groups_rules d gs) (groups_numbers d gs) absent.1) }
 
 -- 3. The first segment is ISA: 105 bytes, and the terminator is byte 105.
 terminator_free : (i : Bytes) (s t : ℕ) (es : List ℕ) → eqb s t ≡ false → all (λ e. eqb (get_or i e 0) s) es ≡ true
@@ -365,11 +363,11 @@ chain_from (open_piece x xs o) w =
     rw (cut_open x xs o, group_open x xs (all_tail is_open x xs o))
     (open_group (all_head is_open x xs o) (all_tail is_open x xs o))
 chain_from (closed_piece [] ge rest o e c) w =
-    let g : Group = record { header = ge; body = []; trailer = none } in
+    let g : Group = record { header = ge; body = []; trailer = None } in
     let whole = all_head is_whole_group g (groups_from rest) (rw (cut_closed [] ge rest o e, group_open ge [] o) at w) in
     absurd (false≢true (sym (gs_open ge (and_left (is_named (ascii "GS") ge) (all is_outer []) whole)) ∙ e))
 chain_from (closed_piece (x ∷ xs) ge rest o e c) w =
-    let g : Group = record { header = x; body = xs; trailer = some ge } in
+    let g : Group = record { header = x; body = xs; trailer = Some ge } in
     let whole = all_tail is_whole_group g (groups_from rest) (rw (cut_closed (x ∷ xs) ge rest o e, group_closed x xs ge e) at w) in
     rw (cut_closed (x ∷ xs) ge rest o e, group_closed x xs ge e)
     (closed_group (all_head is_open x xs o) (all_tail is_open x xs o) e (chain_from c whole))

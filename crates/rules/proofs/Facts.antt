@@ -1,15 +1,14 @@
 -- What the definitions promise: one outcome for each call, a verdict by the codes alone, and counts that count.
-use Rattle.std.specs.Prelude.{if◌then◌else◌}
+use Rattle.std.specs.Prelude.{if◌then◌else◌, Option, Err}
 use mathlib.Core.Path.{◌≡◌, refl, sym, ◌∙◌, ap}
 use mathlib.Core.Bool.{Bool, true, false, ◌&&◌, false≢true}
 use mathlib.Core.List.{List, [], ◌∷◌, ◌++◌, map, append-nil, append_assoc}
-use mathlib.Core.Option.{Option}
-use Prim.Native.Nat.{ℕ, suc, ◌+◌, ◌≤◌}
+use Prim.Native.Nat.{ℕ, zero, suc, ◌+◌, ◌-◌, ◌≤◌}
 use native.Mathlib.Omega.{arith}
-use borrow.Author.Tests.{ne_eqb, le-leb}
-use lib.Dec.{T, eqb}
+use borrow.Author.Tests.{ne_eqb, le-leb, eqb-true, eqb-false}
+use lib.Dec.{T, eqb, leb}
 use lib.ListN.{length, length-append}
-use Rattle.rules.specs.Base.{Bytes, ascii, null, same, last, Rule, first}
+use Rattle.rules.specs.Base.{Bytes, ascii, null, same, last, Rule, ◌⇒◌, first}
 use Rattle.rules.specs.Cutting.{field, delimiters, isa, segments}
 use Rattle.rules.specs.Numbers.{decimal}
 use Rattle.rules.specs.Sets.{Set, control_of, SetReport, accepted}
@@ -17,12 +16,14 @@ use Rattle.rules.specs.Tables.{Table}
 use Rattle.rules.specs.Groups.{Group, groups_of, sets, table_in, set_reports, accepted_in, GroupReport, group_report}
 use Rattle.rules.specs.Refusals.{call_rules, head_rules, end_rules, envelope_rules, trailer_rules, header_rules, answer_rules, set_rules, group_rules, groups_rules, most_groups, refusal_rules, refusal}
 use Rattle.rules.specs.Response.{se_out, told, transaction_set}
-use Rattle.rules.specs.Answers.{Reply, fitting, answer, buffer, Allowed, outcome, called}
+use Rattle.rules.specs.InterchangeAcknowledgment.{interchange_rules, interchange_refusal}
+use Rattle.rules.specs.Answers.{Reply, Answer, fitting, answer, buffer, needed, Allowed, outcome, called, functional_acknowledgment, interchange_acknowledgment}
 use Rattle.rules.specs.declared.Call.{Call}
-use Rattle.rules.specs.declared.Answer.{Answer}
-use Rattle.rules.specs.declared.Answer.TheVariants.{Refused}
+use Rattle.rules.specs.Refused.{number_of, refused}
+use Rattle.rules.specs.declared.Refusal.{Refusal}
+use Rattle.rules.specs.declared.Refusal.TheVariants.{BadCall, BadLength, NoIsa, BadDelimiters, BadIsa, NotTerminated, OutOfPlace, BadTrailer, BadHeader, Acknowledgment, Outside, NoSet, BadSetHeader, TooLong, NotAsked}
 use Rattle.rules.specs.declared.Delimiters.{Delimiters}
-use Rattle.rules.proofs.Logic.{last_snoc, or_else, numbered, first_append, both_left, both_right, numbered_in, first_low}
+use Rattle.rules.proofs.Logic.{and_left, and_right, last_snoc, or_else, numbered, first_append, both_left, both_right, numbered_in, first_low}
 
 -- 1. What is allowed: a response where there is no refusal, and a refusal that leaves the buffer as it was. It has the outcome of the call, and two
 -- allowed outcomes coincide: the answer, and with it number and length, and every byte of the buffer.
@@ -32,13 +33,41 @@ module _ (reply : Reply) (lent : Bytes) where
   unfolding Allowed answer
   response_allowed e p = (rw e p.0, p.1)
 
-  pub refusal_allowed : {n : ℕ} → n ≡ reply.refusal → (n ≡ 0 → ⊥) → Allowed reply lent (Refused n) lent
+  pub refusal_allowed : {n : ℕ} → n ≡ reply.refusal → (n ≡ 0 → ⊥) → Allowed reply lent (Err (refused n)) lent
   unfolding Allowed answer
   refusal_allowed {n} e h = (rw (← e, ne_eqb n 0 h), refl)
 
-pub allowed_outcome : (reply : Reply) (lent : Bytes) (a : Answer) {left : Bytes} → Allowed reply lent a left → outcome a left ≡ called reply lent
-unfolding Allowed called
-allowed_outcome reply lent a p = rw (p.1, p.0)
+-- The refusal that the reply's number stands for has this number.
+abbrev pub Numbered : Reply → Type 0
+Numbered reply = (reply.refusal ≡ 0 → ⊥) → number_of (refused reply.refusal) ≡ reply.refusal
+
+-- no refusal that a number stands for has a length
+needed_refused : (n : ℕ) → needed (refused n) ≡ 0
+unfolding refused
+needed_refused zero = refl
+needed_refused (suc zero) = refl
+needed_refused (suc (suc zero)) = refl
+needed_refused (suc (suc (suc zero))) = refl
+needed_refused (suc (suc (suc (suc zero)))) = refl
+needed_refused (suc (suc (suc (suc (suc zero))))) = refl
+needed_refused (suc (suc (suc (suc (suc (suc zero)))))) = refl
+needed_refused (suc (suc (suc (suc (suc (suc (suc zero))))))) = refl
+needed_refused (suc (suc (suc (suc (suc (suc (suc (suc zero)))))))) = refl
+needed_refused (suc (suc (suc (suc (suc (suc (suc (suc (suc zero))))))))) = refl
+needed_refused (suc (suc (suc (suc (suc (suc (suc (suc (suc (suc zero)))))))))) = refl
+needed_refused (suc (suc (suc (suc (suc (suc (suc (suc (suc (suc (suc zero))))))))))) = refl
+needed_refused (suc (suc (suc (suc (suc (suc (suc (suc (suc (suc (suc (suc zero)))))))))))) = refl
+needed_refused (suc (suc (suc (suc (suc (suc (suc (suc (suc (suc (suc (suc (suc zero))))))))))))) = refl
+needed_refused (suc (suc (suc (suc (suc (suc (suc (suc (suc (suc (suc (suc (suc (suc n)))))))))))))) = let less : (suc (suc (suc (suc (suc (suc (suc (suc (suc (suc (suc (suc (suc (suc n)))))))))))))) - 1 ≡ (suc (suc (suc (suc (suc (suc (suc (suc (suc (suc (suc (suc (suc n))))))))))))) = omega arith in rw less
+
+pub allowed_outcome : (reply : Reply) (lent : Bytes) (a : Answer) {left : Bytes} → Numbered reply → Allowed reply lent a left → outcome a left ≡ called reply lent
+unfolding Allowed answer called
+allowed_outcome reply lent a {left} numbered p = go (eqb reply.refusal 0) refl (leb (length reply.response) (length lent)) refl
+  where
+    go : (b : Bool) → eqb reply.refusal 0 ≡ b → (c : Bool) → leb (length reply.response) (length lent) ≡ c → outcome a left ≡ called reply lent
+    go true q true k = rw (p.1, p.0, q, k)
+    go true q false k = rw (p.1, p.0, q, k)
+    go false q c k = rw (p.1, p.0, q, numbered (eqb-false reply.refusal 0 q), needed_refused reply.refusal)
 
 module _ (reply : Reply) (lent : Bytes) (a₁ a₂ : Answer) (l₁ l₂ : Bytes)
     (p : Allowed reply lent a₁ l₁) (q : Allowed reply lent a₂ l₂) where
@@ -98,6 +127,62 @@ groups_numbered lo h d (g ∷ gs) =
 pub refusal_low : (i : Bytes) (call : Call) → refusal i call ≤ 13
 unfolding refusal refusal_rules call_rules head_rules end_rules envelope_rules trailer_rules group_rules header_rules answer_rules set_rules
 refusal_low i call = first_low 1 13 (refusal_rules i call) (groups_numbered 1 (omega arith) (delimiters i) (groups_of (segments (delimiters i) i)))
+
+-- The refusal with a number from 1 to 13 has that number.
+pub number_refused : (n : ℕ) → n ≤ 13 → (n ≡ 0 → ⊥) → number_of (refused n) ≡ n
+unfolding refused
+number_refused zero e h = absurd (h refl)
+number_refused (suc zero) e h = refl
+number_refused (suc (suc zero)) e h = refl
+number_refused (suc (suc (suc zero))) e h = refl
+number_refused (suc (suc (suc (suc zero)))) e h = refl
+number_refused (suc (suc (suc (suc (suc zero))))) e h = refl
+number_refused (suc (suc (suc (suc (suc (suc zero)))))) e h = refl
+number_refused (suc (suc (suc (suc (suc (suc (suc zero))))))) e h = refl
+number_refused (suc (suc (suc (suc (suc (suc (suc (suc zero)))))))) e h = refl
+number_refused (suc (suc (suc (suc (suc (suc (suc (suc (suc zero))))))))) e h = refl
+number_refused (suc (suc (suc (suc (suc (suc (suc (suc (suc (suc zero)))))))))) e h = refl
+number_refused (suc (suc (suc (suc (suc (suc (suc (suc (suc (suc (suc zero))))))))))) e h = refl
+number_refused (suc (suc (suc (suc (suc (suc (suc (suc (suc (suc (suc (suc zero)))))))))))) e h = refl
+number_refused (suc (suc (suc (suc (suc (suc (suc (suc (suc (suc (suc (suc (suc zero))))))))))))) e h = refl
+number_refused (suc (suc (suc (suc (suc (suc (suc (suc (suc (suc (suc (suc (suc (suc n)))))))))))))) e h = absurd (omega (arith, e))
+
+-- the refusal of a number has that number where each of the rules that give it has one that does
+abbrev all_known : List Rule → Bool
+all_known [] = true
+all_known ((b ⇒ n) ∷ rs) = eqb (number_of (refused n)) n && all_known rs
+
+known : (rs : List Rule) → all_known rs ≡ true → (first rs ≡ 0 → ⊥) → number_of (refused (first rs)) ≡ first rs
+unfolding first
+known [] e h = absurd (h refl)
+known ((true ⇒ n) ∷ rs) e h = eqb-true _ n (and_left (eqb (number_of (refused n)) n) (all_known rs) e)
+known ((false ⇒ n) ∷ rs) e h = known rs (and_right (eqb (number_of (refused n)) n) (all_known rs) e) h
+
+-- so it is of both entries
+pub functional_numbered : (i : Bytes) (call : Call) → Numbered (functional_acknowledgment i call)
+functional_numbered i call h = number_refused (refusal i call) (refusal_low i call) h
+
+pub interchange_numbered : (i : Bytes) (call : Call) → Numbered (interchange_acknowledgment i call)
+unfolding interchange_refusal interchange_rules call_rules head_rules refused
+interchange_numbered i call h = known (interchange_rules i call) refl h
+
+-- no refusal has the number 0
+pub numbered_refusal : (r : Refusal) → number_of r ≡ 0 → ⊥
+numbered_refusal BadCall e = omega (arith, e)
+numbered_refusal BadLength e = omega (arith, e)
+numbered_refusal NoIsa e = omega (arith, e)
+numbered_refusal BadDelimiters e = omega (arith, e)
+numbered_refusal BadIsa e = omega (arith, e)
+numbered_refusal NotTerminated e = omega (arith, e)
+numbered_refusal OutOfPlace e = omega (arith, e)
+numbered_refusal BadTrailer e = omega (arith, e)
+numbered_refusal BadHeader e = omega (arith, e)
+numbered_refusal Acknowledgment e = omega (arith, e)
+numbered_refusal Outside e = omega (arith, e)
+numbered_refusal NoSet e = omega (arith, e)
+numbered_refusal BadSetHeader e = omega (arith, e)
+numbered_refusal (TooLong n) e = omega (arith, e)
+numbered_refusal NotAsked e = omega (arith, e)
 
 -- 6. The refusal is that of the first block of rules that has one.
 unfoldable pub first_of : List ℕ → ℕ

@@ -2,7 +2,7 @@
 use mathlib.Core.Path.{◌≡◌, refl, sym, ap, ◌∙◌}
 use mathlib.Core.Bool.{Bool, true, false, not, true≢false}
 use mathlib.Core.List.{List, [], ◌∷◌, ◌++◌, map, append-nil}
-use mathlib.Core.Option.{none, some}
+use Rattle.std.specs.Prelude.{None, Some}
 use borrow.Author.Tests.{not-true}
 use lib.ListN.{drop, get_or}
 use Rattle.rules.specs.Base.{Bytes, ascii, same, all, any, last}
@@ -48,11 +48,11 @@ cut_open x (y ∷ ys) o = rw (not-true (is_ge x) (all_head is_open x (y ∷ ys) 
 
 -- 2. The group of a piece.
 pub group_closed : (gs : Segment) (xs : List Segment) (ge : Segment) → is_ge ge ≡ true
-    → group_with gs (xs ++ ge ∷ []) ≡ record { header = gs; body = xs; trailer = some ge }
+    → group_with gs (xs ++ ge ∷ []) ≡ record { header = gs; body = xs; trailer = Some ge }
 unfolding group_with
 group_closed gs xs ge e = rw (last_snoc [] xs ge, e, front_snoc xs ge)
 
-pub group_open : (gs : Segment) (xs : List Segment) → all is_open xs ≡ true → group_with gs xs ≡ record { header = gs; body = xs; trailer = none }
+pub group_open : (gs : Segment) (xs : List Segment) → all is_open xs ≡ true → group_with gs xs ≡ record { header = gs; body = xs; trailer = None }
 unfolding group_with same
 group_open gs xs o = rw (not-true (is_ge (last [] xs)) (last_all is_open [] xs refl o))
 
@@ -61,9 +61,9 @@ group_open gs xs o = rw (not-true (is_ge (last [] xs)) (last_all is_open [] xs r
 pub data Chain : List Group → Type 0 where
   no_group : Chain []
   open_group : {gs : Segment} {xs : List Segment} → is_open gs ≡ true → all is_open xs ≡ true
-      → Chain (record { header = gs; body = xs; trailer = none } ∷ [])
+      → Chain (record { header = gs; body = xs; trailer = None } ∷ [])
   closed_group : {gs ge : Segment} {xs : List Segment} {rest : List Group} → is_open gs ≡ true → all is_open xs ≡ true → is_ge ge ≡ true → Chain rest
-      → Chain (record { header = gs; body = xs; trailer = some ge } ∷ rest)
+      → Chain (record { header = gs; body = xs; trailer = Some ge } ∷ rest)
 
 pub cut_groups : {gs : List Group} → Chain gs → map group_from (cut_after_ge (flat_groups gs)) ≡ gs
 unfolding flat_groups cut_after_ge

@@ -1,4 +1,7 @@
 pub mod Logic
+pub mod Library
+pub mod Refused
+pub mod Codes
 pub mod Cuts
 pub mod SetLaws
 pub mod GroupLaws

@@ -1,18 +1,17 @@
 -- Change request 9: the codes of a place, and the findings of a segment, stand in their order; what is found of an element that holds the
 -- repetition separator, and that code 12 is found nowhere else.
-use Rattle.std.specs.Prelude.{if◌then◌else◌}
+use Rattle.std.specs.Prelude.{if◌then◌else◌, option_to_list, Option, None, Some}
 use mathlib.Core.Path.{◌≡◌, refl, sym, ap, ◌∙◌}
 use mathlib.Core.Bool.{Bool, true, false, ◌&&◌, ◌||◌, not, false≢true, true≢false}
 use mathlib.Core.Logic.{◌⊎◌, inl, inr}
 use mathlib.Core.List.{List, [], ◌∷◌, ◌++◌, map, append-nil}
-use mathlib.Core.Option.{Option, none, some}
 use Prim.Native.Nat.{ℕ, zero, suc, ◌+◌, ◌≤◌, ◌<◌}
 use native.Mathlib.Nat.{not-suc-le-zero}
 use native.Mathlib.Omega.{arith}
 use borrow.Author.Tests.{not-false, leb-true, eqb-true, eq-eqb, ne_eqb}
 use lib.Dec.{leb, ltb, eqb}
 use lib.ListN.{length, take, get_or}
-use Rattle.rules.specs.Base.{Bytes, Rule, ◌⇒◌, first, every, null, all, any, between, keep, listed, member}
+use Rattle.rules.specs.Base.{Bytes, Rule, ◌⇒◌, first, every, null, all, any, between, keep, member}
 use Rattle.rules.specs.Cutting.{Segment, field, repetition_in, delimiters, separates_repetitions}
 use Rattle.rules.specs.Tables.{Row, Syntax, Entry, Table}
 use Rattle.rules.specs.Elements.{element_code, repeats, present, is_place, lacking, lacks, shuts_out, shows_value, longest_echo, echo_of, place_codes, Finding, found, surplus_at, findings_from, findings}
@@ -23,7 +22,6 @@ use Rattle.rules.specs.Damage.{free}
 use Rattle.rules.specs.declared.Delimiters.{Delimiters}
 use Rattle.rules.specs.declared.Relation.{Relation}
 use Rattle.rules.specs.declared.Relation.TheVariants.{P, R, E, C, L}
-use Rattle.rules.specs.declared.Repetition.TheVariants.{By}
 use Rattle.rules.proofs.Logic.{and_left, and_right, or_none, numbered_in, first_low, Each, each_none, each_append, each_map, each_weaken, Given, every_given}
 use Rattle.rules.proofs.Accepting.{Sound, report_at_lem}
 
@@ -250,7 +248,7 @@ places_repeat d e s k w h repeated =
     silent (c ∷ cs) = rw (repeats_own d r (field s (k + 1)) repeated, unshown c (field s (k + 1)), silent cs)
 
 -- 3. Where it is found.
-module _ (d : Delimiters) (b : ℕ) (by : d.repetition ≡ By b) where
+module _ (d : Delimiters) (b : ℕ) (by : d.repetition ≡ Some b) where
   separates_one : (c : ℕ) → separates_repetitions d c ≡ eqb c b
   unfolding separates_repetitions any
   separates_one c = rw by (or_none (eqb c b))
@@ -265,7 +263,7 @@ module _ (d : Delimiters) (b : ℕ) (by : d.repetition ≡ By b) where
       go false y = refl
 
 -- A value repeats exactly where the separator is one of its bytes. Shut out: a separator of 128 or more that is passed over, and another byte taken for it.
-pub repeats_exactly : (i : Bytes) (b : ℕ) → repetition_in i ≡ By b → (e : Bytes) → repeats (delimiters i) e ≡ not (free b e)
+pub repeats_exactly : (i : Bytes) (b : ℕ) → repetition_in i ≡ Some b → (e : Bytes) → repeats (delimiters i) e ≡ not (free b e)
 unfolding delimiters
 repeats_exactly i b r = repeats_one (delimiters i) b r
 
@@ -410,8 +408,8 @@ module _ (d : Delimiters) where
 
   notes_ordered : (t : Option Table) (s : Set) → Each Ordered (notes_in d t s)
   unfolding notes_of
-  notes_ordered none s = each_none _
-  notes_ordered (some t) s =
+  notes_ordered None s = each_none _
+  notes_ordered (Some t) s =
       each_append Ordered _ _ (segment_ordered 1 0 _ _ (findings_ascend d (entry_at t 0) s.header)) (walk_ordered t _ _ 2 _)
 
 -- The findings of each note in the report of set k stand by place and then by code. Shut out: a report that sorts them otherwise, or says one twice.
@@ -426,7 +424,7 @@ SparedBy b e s = (n : ℕ) → n < length e.rows → free b (field s (n + 1)) �
 
 -- nor at one of the entry that the table has for the segment
 abbrev pub SparedIn : ℕ → Table → Segment → Type 0
-SparedIn b t s = (k : ℕ) → index_from 0 (field s 0) t.entries ≡ some k → SparedBy b (entry_at t k) s
+SparedIn b t s = (k : ℕ) → index_from 0 (field s 0) t.entries ≡ Some k → SparedBy b (entry_at t k) s
 
 both_none : {A : Type 0} (xs ys : List A) → xs ++ ys ≡ [] → (xs ≡ []) × (ys ≡ [])
 both_none [] ys e = (refl, e)
@@ -442,7 +440,7 @@ unnoted n c id fs e = go (eqb c 0) refl fs e
     go true q (f ∷ fs) e = absurd (true≢false (ap (λ l. not (null l)) e))
     go false q fs e = absurd (true≢false (ap (λ l. not (null l)) e))
 
-module _ (d : Delimiters) (b : ℕ) (by : d.repetition ≡ By b) where
+module _ (d : Delimiters) (b : ℕ) (by : d.repetition ≡ Some b) where
   -- without a finding there is no 12
   spared : (e : Entry) (s : Segment) → findings d e s ≡ [] → SparedBy b e s
   unfolding any
@@ -479,10 +477,10 @@ module _ (d : Delimiters) (b : ℕ) (by : d.repetition ≡ By b) where
 -- a set whose elements at the places of its table are without the byte b: those of its ST, and those of each segment after it
 pub record Unrepeated (b : ℕ) (t : Table) (s : Set) : Type 0 where
   pub header : SparedBy b (entry_at t 0) s.header
-  pub after : Each (SparedIn b t) (s.body ++ listed s.trailer)
+  pub after : Each (SparedIn b t) (s.body ++ option_to_list s.trailer)
 
 -- Of an accepted set no element at a place of its table holds the separator. Shut out: a program that accepts a repeated element.
-pub sound_unrepeated : (i : Bytes) (b : ℕ) → repetition_in i ≡ By b → (gs : Segment) (earlier : List Set) (s : Set)
+pub sound_unrepeated : (i : Bytes) (b : ℕ) → repetition_in i ≡ Some b → (gs : Segment) (earlier : List Set) (s : Set)
     → (h : Sound (delimiters i) gs earlier s) → Unrepeated b h.table s
 unfolding notes_of delimiters
 sound_unrepeated i b r gs earlier s h =

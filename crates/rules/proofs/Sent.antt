@@ -1,9 +1,8 @@
 -- What a response may hold: in its elements valid bytes and nothing else, but for ISA16; so the repetition separator stands nowhere in it.
-use Rattle.std.specs.Prelude.{if◌then◌else◌}
+use Rattle.std.specs.Prelude.{if◌then◌else◌, Option, None, Some, ℕ}
 use mathlib.Core.Path.{◌≡◌, refl, sym, ap, ◌∙◌}
 use mathlib.Core.Bool.{Bool, true, false, ◌&&◌, ◌||◌, not, or-true, false≢true}
 use mathlib.Core.List.{List, [], ◌∷◌, ◌++◌, map}
-use mathlib.Core.Option.{Option, none, some}
 use Prim.Native.Nat.{ℕ, zero, suc, ◌+◌, ◌/◌, ◌%◌, ◌<◌}
 use native.Mathlib.Omega.{arith}
 use borrow.Author.Tests.{not-true, not-false, eqb-false, eq-eqb, ne_eqb, le-leb, ltb-true}
@@ -24,8 +23,6 @@ use Rattle.rules.specs.InterchangeAcknowledgment.{note_code_rules, verdict_by, i
 use Rattle.rules.specs.Damage.{free, groups_in}
 use Rattle.rules.specs.declared.Call.{Call}
 use Rattle.rules.specs.declared.Delimiters.{Delimiters}
-use Rattle.rules.specs.declared.Repetition.{Repetition}
-use Rattle.rules.specs.declared.Repetition.TheVariants.{Nothing, By}
 use Rattle.rules.proofs.Logic.{and_left, and_right, all_head, all_tail, all_cons, all_append, all_left, all_right, all_take, all_drop, all_anywhere, all_weaken, silent, Each, each_none, each_append, each_weaken, each_all}
 use Rattle.rules.proofs.Lengths.{either}
 use Rattle.rules.proofs.Echo.{Points, notes_point}
@@ -84,8 +81,8 @@ abbrev is_titled : Entry → Bool
 is_titled e = commons e.id
 
 abbrev titled_in : Option Table → Bool
-titled_in none = true
-titled_in (some t) = all is_titled t.entries
+titled_in None = true
+titled_in (Some t) = all is_titled t.entries
 
 table_titled : (gs : Segment) (s : Set) → titled_in (table_in gs s) ≡ true
 unfolding table_in set_table edition_table table006010 table004010 all
@@ -250,8 +247,8 @@ module _ (d : Delimiters) (p : all plain (marks d) ≡ true) where
 
   notes_titled : (t : Option Table) (s : Set) → titled_in t ≡ true → Each Titled (notes_in d t s)
   unfolding notes_of
-  notes_titled none s h = each_none Titled
-  notes_titled (some t) s h = each_append Titled _ _ (segment_titled 1 0 _ _) (walk_titled t h _ _ 2 _)
+  notes_titled None s h = each_none Titled
+  notes_titled (Some t) s h = each_append Titled _ _ (segment_titled 1 0 _ _) (walk_titled t h _ _ 2 _)
 
   notes_quoted : (t : Option Table) (s : Set) → Each Quoted (notes_in d t s)
   notes_quoted t s =
@@ -347,16 +344,16 @@ module _ (d : Delimiters) (p : all plain (marks d) ≡ true) where
     before_clean : all (all (valid d)) (take 11 s) ≡ true
     before_clean = go d.repetition texts
       where
-        go : (r : Repetition) → all (all (valid d)) (text_fields r s) ≡ true → all (all (valid d)) (take 11 s) ≡ true
-        go Nothing e = all_take (all (valid d)) 11 s e
-        go (By b) e = all_left (all (valid d)) (take 11 s) (drop 12 s) e
+        go : (r : Option ℕ) → all (all (valid d)) (text_fields r s) ≡ true → all (all (valid d)) (take 11 s) ≡ true
+        go None e = all_take (all (valid d)) 11 s e
+        go (Some b) e = all_left (all (valid d)) (take 11 s) (drop 12 s) e
 
     after_clean : all (all (valid d)) (drop 12 s) ≡ true
     after_clean = go d.repetition texts
       where
-        go : (r : Repetition) → all (all (valid d)) (text_fields r s) ≡ true → all (all (valid d)) (drop 12 s) ≡ true
-        go Nothing e = all_drop (all (valid d)) 12 s e
-        go (By b) e = all_right (all (valid d)) (take 11 s) (drop 12 s) e
+        go : (r : Option ℕ) → all (all (valid d)) (text_fields r s) ≡ true → all (all (valid d)) (drop 12 s) ≡ true
+        go None e = all_drop (all (valid d)) 12 s e
+        go (Some b) e = all_right (all (valid d)) (take 11 s) (drop 12 s) e
 
     early : (k : ℕ) → k < 11 → clean (field s k)
     early k h = rw (get_or-take 11 s k [] h) at (field_clean (take 11 s) before_clean k)
@@ -473,7 +470,7 @@ module _ (d : Delimiters) where
       (all_weaken (all (all (valid d))) (all (all q)) segments ss (all_tail (all (all (valid d))) (take 16 isa) ss e)))
 
   -- the repetition separator is no such byte
-  separator_barred : good_marks (marks d) ≡ true → (b : ℕ) → d.repetition ≡ By b → is_sendable d b ≡ false
+  separator_barred : good_marks (marks d) ≡ true → (b : ℕ) → d.repetition ≡ Some b → is_sendable d b ≡ false
   unfolding good_marks marks separates_repetitions any
   separator_barred m b e = rw (invalid (valid d b) refl, free_none b three single)
     where
@@ -489,13 +486,13 @@ module _ (d : Delimiters) where
       invalid true q = absurd (false≢true (sym (valid_apart d b q).3 ∙ rw (e, eq-eqb b b refl)))
       invalid false q = refl
 
-  separator_free : good_marks (marks d) ≡ true → (b : ℕ) → d.repetition ≡ By b → (bs : Bytes) → all (is_sendable d) bs ≡ true → free b bs ≡ true
+  separator_free : good_marks (marks d) ≡ true → (b : ℕ) → d.repetition ≡ Some b → (bs : Bytes) → all (is_sendable d) bs ≡ true → free b bs ≡ true
   separator_free m b e = all_weaken (is_sendable d) (λ c. not (eqb c b)) apart
     where
       apart : (c : ℕ) → is_sendable d c ≡ true → not (eqb c b) ≡ true
       apart c h = rw (ne_eqb c b (λ q. false≢true (sym (separator_barred m b e) ∙ ap (is_sendable d) (sym q) ∙ h)))
 
-  clean_free : good_marks (marks d) ≡ true → (b : ℕ) → d.repetition ≡ By b → (bs : Bytes) → all (valid d) bs ≡ true → free b bs ≡ true
+  clean_free : good_marks (marks d) ≡ true → (b : ℕ) → d.repetition ≡ Some b → (bs : Bytes) → all (valid d) bs ≡ true → free b bs ≡ true
   clean_free m b e bs h = separator_free m b e bs (all_weaken (valid d) (is_sendable d) (λ c v. rw v) bs h)
 
 -- a group without the byte b in the texts of its GS and in its control numbers ST02
@@ -506,7 +503,7 @@ pub record Without (b : ℕ) (g : Group) : Type 0 where
   pub gs08 : free b (field g.header 8) ≡ true
   pub st02s : Each (λ s. free b (field s.header 2) ≡ true) (sets g)
 
-module _ (d : Delimiters) (m : good_marks (marks d) ≡ true) (p : all plain (marks d) ≡ true) (b : ℕ) (e : d.repetition ≡ By b) where
+module _ (d : Delimiters) (m : good_marks (marks d) ≡ true) (p : all plain (marks d) ≡ true) (b : ℕ) (e : d.repetition ≡ Some b) where
   sets_without : (ss : List Set) → all (λ s. good_st d s.header) ss ≡ true → Each (λ s. free b (field s.header 2) ≡ true) ss
   unfolding Each
   sets_without [] h = tt
@@ -571,12 +568,12 @@ module _ (i : Bytes) (call : Call) (e : refusal i call ≡ 0) where
   sent_sendable = whole_sendable (delimiters i) (isa i) call _ sent_valid
 
   -- The repetition separator of the interchange stands nowhere in its response. Shut out: an echo of a repeated element, and ISA11 given back as it came.
-  pub separator_unsent : (b : ℕ) → repetition_in i ≡ By b → free b (response i call) ≡ true
+  pub separator_unsent : (b : ℕ) → repetition_in i ≡ Some b → free b (response i call) ≡ true
   unfolding delimiters
   separator_unsent b r = separator_free (delimiters i) c.passed.marked b r (response i call) sent_sendable
 
   -- It stands in no text of a GS and in no ST02 of the groups that are answered. Shut out: a program that looks at those of the first group only.
-  pub separator_unadmitted : (b : ℕ) → repetition_in i ≡ By b → Each (Without b) (groups_in i)
+  pub separator_unadmitted : (b : ℕ) → repetition_in i ≡ Some b → Each (Without b) (groups_in i)
   unfolding delimiters
   separator_unadmitted b r =
       let d = delimiters i in
@@ -604,6 +601,6 @@ module _ (i : Bytes) (call : Call) (e : interchange_refusal i call ≡ 0) where
   unfolding interchange_response interchange_respond
   sent_sendable_ta1 = whole_sendable (delimiters i) (isa i) call _ sent_valid_ta1
 
-  pub separator_unsent_ta1 : (b : ℕ) → repetition_in i ≡ By b → free b (interchange_response i call) ≡ true
+  pub separator_unsent_ta1 : (b : ℕ) → repetition_in i ≡ Some b → free b (interchange_response i call) ≡ true
   unfolding delimiters
   separator_unsent_ta1 b r = separator_free (delimiters i) head_good.0 b r (interchange_response i call) sent_sendable_ta1

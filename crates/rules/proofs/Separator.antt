@@ -1,5 +1,5 @@
 -- Change request 9: what checks 2 to 5 ask of a repetition separator, by the same interchange with `U` in its place.
-use Rattle.std.specs.Prelude.{if◌then◌else◌}
+use Rattle.std.specs.Prelude.{if◌then◌else◌, None, Option, Some, ℕ}
 use mathlib.Core.Path.{◌≡◌, refl, sym, ap, ◌∙◌}
 use mathlib.Core.Bool.{Bool, true, false, ◌&&◌, ◌||◌, not, and-true, false≢true}
 use mathlib.Core.Logic.{◌↔◌}
@@ -16,8 +16,6 @@ use Rattle.rules.specs.Numbers.{digits}
 use Rattle.rules.specs.Refusals.{has_isa, plain, distinct, good_marks, text_fields, good_isa, head_rules}
 use Rattle.rules.specs.Damage.{free}
 use Rattle.rules.specs.declared.Delimiters.{Delimiters}
-use Rattle.rules.specs.declared.Repetition.{Repetition}
-use Rattle.rules.specs.declared.Repetition.TheVariants.{Nothing, By}
 use Rattle.rules.proofs.Logic.{and_left, and_right, all_head, all_tail, all_cons, all_append, all_both, all_left, all_right, all_take, all_drop, all_weaken, all_join, all_at, any_append, silent}
 use Rattle.rules.proofs.Cuts.{plain_other, common_valid}
 use Rattle.rules.proofs.Envelope.{isa_head, covered, isa11_byte, isa_long, Header, header}
@@ -89,15 +87,15 @@ module _ (i : Bytes) where
   isa15_kept = ap (λ (s : Segment). field s 3) after_kept
 
 -- the delimiters, by the repetition separator that they have
-abbrev by : Bytes → Repetition → Delimiters
+abbrev by : Bytes → Option ℕ → Delimiters
 by i r = record { element = get_or i 3 0; component = get_or i 104 0; terminator = get_or i 105 0; repetition = r }
 
 module _ (i : Bytes) where
-  by_kept : by (with_u i) Nothing ≡ by i Nothing
+  by_kept : by (with_u i) None ≡ by i None
   by_kept =
       rw (get_or-set_other i 82 3 85 0 (omega arith), get_or-set_other i 82 104 85 0 (omega arith), get_or-set_other i 82 105 85 0 (omega arith))
 
-  pub by_u : 106 ≤ length i → delimiters (with_u i) ≡ by i Nothing
+  pub by_u : 106 ≤ length i → delimiters (with_u i) ≡ by i None
   unfolding delimiters
   by_u l = rw (unused_u (with_u i) (get_or-set_same i 82 85 0 (omega (arith, l)))) by_kept
 
@@ -133,9 +131,9 @@ marks_snoc ms b = rw (distinct_snoc ms b, all_snoc plain ms b) (go (distinct ms)
 
 module _ (i : Bytes) (b : ℕ) where
   -- a byte is valid with the separator where it is without, and is not the separator
-  valid_by : (c : ℕ) → valid (by i (By b)) c ≡ valid (by i Nothing) c && not (eqb c b)
+  valid_by : (c : ℕ) → valid (by i (Some b)) c ≡ valid (by i None) c && not (eqb c b)
   unfolding valid marks any
-  valid_by c = rw (any_append (eqb c) (marks (by i Nothing)) (b ∷ [])) (go (between 32 126 c) (any (eqb c) (marks (by i Nothing))) (eqb c b))
+  valid_by c = rw (any_append (eqb c) (marks (by i None)) (b ∷ [])) (go (between 32 126 c) (any (eqb c) (marks (by i None))) (eqb c b))
     where
       go : (w y x : Bool) → w && not (y || (x || false)) ≡ w && not y && not x
       go false y x = refl
@@ -212,7 +210,7 @@ module _ (b : ℕ) where
   other c = not (eqb c b)
 
   -- a byte that is in no field of ISA and is none of the three delimiters is in none of the 106 bytes
-  fields_cover : (i : Bytes) → 106 ≤ length i → has_isa i ≡ true → free b (marks (by i Nothing)) ≡ true → all (free b) (isa i) ≡ true
+  fields_cover : (i : Bytes) → 106 ≤ length i → has_isa i ≡ true → free b (marks (by i None)) ≡ true → all (free b) (isa i) ≡ true
       → free b (take 106 i) ≡ true
   unfolding has_isa isa separators fields_at marks all
   fields_cover i l opened apart fields =
@@ -240,25 +238,25 @@ module _ (b : ℕ) where
   byte_within i l e n h =
       rw (get_or-take 106 i n 0 h) at (all_at other (take 106 i) 0 n e (rw (length-take-le 106 i l) h))
 
-  marks_within : (i : Bytes) → 106 ≤ length i → free b (take 106 i) ≡ true → free b (marks (by i Nothing)) ≡ true
+  marks_within : (i : Bytes) → 106 ≤ length i → free b (take 106 i) ≡ true → free b (marks (by i None)) ≡ true
   unfolding marks all
   marks_within i l e = rw (byte_within i l e 3 (lit< tt), byte_within i l e 104 (lit< tt), byte_within i l e 105 (lit< tt))
 
-module _ (i : Bytes) (b : ℕ) (separates : repetition_in i ≡ By b) where
+module _ (i : Bytes) (b : ℕ) (separates : repetition_in i ≡ Some b) where
   abbrev three : List ℕ
-  three = marks (by i Nothing)
+  three = marks (by i None)
 
-  with_b : delimiters i ≡ by i (By b)
+  with_b : delimiters i ≡ by i (Some b)
   unfolding delimiters
   with_b = rw separates
 
-  marks_good : good_marks (marks (by i (By b))) ≡ good_marks three && (plain b && free b three)
+  marks_good : good_marks (marks (by i (Some b))) ≡ good_marks three && (plain b && free b three)
   unfolding marks
   marks_good = marks_snoc three b
 
   -- with the separator
   abbrev Own : Type 0
-  Own = Heads i (marks (by i (By b))) (valid (by i (By b))) (others i)
+  Own = Heads i (marks (by i (Some b))) (valid (by i (Some b))) (others i)
 
   own : first (head_rules i) ≡ 0 → Own
   own e = rw with_b at (heads i e)
@@ -268,7 +266,7 @@ module _ (i : Bytes) (b : ℕ) (separates : repetition_in i ≡ By b) where
 
   -- with `U`
   abbrev Former : Type 0
-  Former = Heads (with_u i) three (valid (by i Nothing)) (isa (with_u i))
+  Former = Heads (with_u i) three (valid (by i None)) (isa (with_u i))
 
   long_u : between 106 65536 (length (with_u i)) ≡ true → 106 ≤ length i
   long_u e = omega (arith, long (length (with_u i)) e, length-set i 82 85)
@@ -292,18 +290,18 @@ module _ (i : Bytes) (b : ℕ) (separates : repetition_in i ≡ By b) where
       let is_plain = and_left (plain b) (free b three) single in
       let opened = has_isa_kept i ∙ h.opened in
       let texts =
-      all_weaken (all (valid (by i (By b)))) (all (valid (by i Nothing)))
-      (all_weaken (valid (by i (By b))) (valid (by i Nothing)) (λ c e. and_left (valid (by i Nothing) c) (other b c) (sym (valid_by i b c) ∙ e)))
+      all_weaken (all (valid (by i (Some b)))) (all (valid (by i None)))
+      (all_weaken (valid (by i (Some b))) (valid (by i None)) (λ c e. and_left (valid (by i None) c) (other b c) (sym (valid_by i b c) ∙ e)))
       (others i) h.texts in
       let clear =
-      all_weaken (all (valid (by i (By b)))) (free b)
-      (all_weaken (valid (by i (By b))) (other b) (λ c e. and_right (valid (by i Nothing) c) (other b c) (sym (valid_by i b c) ∙ e)))
+      all_weaken (all (valid (by i (Some b)))) (free b)
+      (all_weaken (valid (by i (Some b))) (other b) (λ c e. and_right (valid (by i None) c) (other b c) (sym (valid_by i b c) ∙ e)))
       (others i) h.texts in (
         record {
           sized = ap (between 106 65536) (length-set i 82 85) ∙ h.sized;
           opened = opened;
           marked = good;
-          texts = all_others i (all (valid (by i Nothing))) l texts (rw (common_valid (by i Nothing) (and_right (distinct three) (all plain three) good) 85 refl));
+          texts = all_others i (all (valid (by i None))) l texts (rw (common_valid (by i None) (and_right (distinct three) (all plain three) good) 85 refl));
           isa13 = ap (digits 9 9) (isa13_kept i) ∙ h.isa13;
           isa15 = ap is_p (isa15_kept i) ∙ h.isa15;
         },
@@ -323,22 +321,22 @@ module _ (i : Bytes) (b : ℕ) (separates : repetition_in i ≡ By b) where
         opened = sym (has_isa_kept i) ∙ h.opened;
         marked = marks_good ∙ rw (h.marked, a.0, single);
         texts =
-            all_join (all (valid (by i Nothing))) (free b) (all (valid (by i (By b))))
-            (all_join (valid (by i Nothing)) (other b) (valid (by i (By b))) (λ c e f. valid_by i b c ∙ rw (e, f)))
-            (others i) (others_all i (all (valid (by i Nothing))) h.texts) (others_all i (free b) (isa_within b (with_u i) a.1));
+            all_join (all (valid (by i None))) (free b) (all (valid (by i (Some b))))
+            (all_join (valid (by i None)) (other b) (valid (by i (Some b))) (λ c e f. valid_by i b c ∙ rw (e, f)))
+            (others i) (others_all i (all (valid (by i None))) h.texts) (others_all i (free b) (isa_within b (with_u i) a.1));
         isa13 = ap (digits 9 9) (sym (isa13_kept i)) ∙ h.isa13;
         isa15 = ap is_p (sym (isa15_kept i)) ∙ h.isa15;
       }
 
   -- where they pass it with `U`, the separator's own two tests decide
-  own_tests : Former → first (head_rules i) ≡ first ((not (plain b && free b three) ⇒ 4) ∷ (not (good_isa (by i (By b)) (isa i)) ⇒ 5) ∷ [])
+  own_tests : Former → first (head_rules i) ≡ first ((not (plain b && free b three) ⇒ 4) ∷ (not (good_isa (by i (Some b)) (isa i)) ⇒ 5) ∷ [])
   unfolding head_rules first
   own_tests f = rw (with_b, ← length-set i 82 85, f.sized, ← has_isa_kept i, f.opened, marks_good, f.marked)
 
 -- Checks 2 to 5 pass an interchange with a repetition separator exactly when they pass it with `U` in the separator's place, and the separator is no letter,
 -- digit or space and stands at no other byte of ISA, so that it is none of the other delimiters either. Shut out: a separator that is not held to check 4,
 -- one that may stand in a field of ISA, and one that check 5 takes for text.
-pub head_with : (i : Bytes) (b : ℕ) → repetition_in i ≡ By b
+pub head_with : (i : Bytes) (b : ℕ) → repetition_in i ≡ Some b
     → first (head_rules i) ≡ 0 ↔ ((first (head_rules (with_u i)) ≡ 0) × ((plain b ≡ true) × (free b (take 106 (with_u i)) ≡ true)))
 head_with i b e = (
   λ h. let r = apart i b e (own i b e h) in (by_former i b e r.0, r.1),
@@ -347,14 +345,14 @@ head_with i b e = (
 
 -- Where they pass it with `U`, they give 4 exactly where the separator is a letter, a digit, a space or one of the other three delimiters; else 5 where it
 -- stands at another byte of ISA; else nothing. Shut out: another number for such a separator, and 5 before 4.
-pub head_number : (i : Bytes) (b : ℕ) → repetition_in i ≡ By b → first (head_rules (with_u i)) ≡ 0
+pub head_number : (i : Bytes) (b : ℕ) → repetition_in i ≡ Some b → first (head_rules (with_u i)) ≡ 0
     → first (head_rules i)
     ≡ (if not (plain b && free b (marks (delimiters (with_u i)))) then 4 else (if free b (take 106 (with_u i)) then 0 else 5))
 unfolding first
 head_number i b e h =
     let f = former i b e h in
     let single = plain b && free b (three i b e) in
-    let good = good_isa (by i (By b)) (isa i) in
+    let good = good_isa (by i (Some b)) (isa i) in
     let number = own_tests i b e f in
     rw (by_u i (long_u i b e f.sized))
     (number ∙ go single good (free b (take 106 (with_u i))) (λ z. ((head_with i b e).0 (number ∙ z)).1.1)

@@ -2,9 +2,9 @@
 use mathlib.Core.Path.{◌≡◌, refl, ap}
 use mathlib.Core.Bool.{Bool, true, false, ◌&&◌, not, true≢false}
 use mathlib.Core.List.{List, [], ◌∷◌, ◌++◌, append-nil}
-use mathlib.Core.Option.{Option, none, some}
+use Rattle.std.specs.Prelude.{Option, None, Some, option_to_list}
 use borrow.Author.Tests.{not-true}
-use Rattle.rules.specs.Base.{ascii, same, all, any, listed}
+use Rattle.rules.specs.Base.{ascii, same, all, any}
 use Rattle.rules.specs.Cutting.{Segment, field}
 use Rattle.rules.specs.Sets.{Set, is_st, is_se, sets_of, body_of, trailer_of, outside, inside}
 use Rattle.rules.specs.Refusals.{is_envelope}
@@ -45,8 +45,8 @@ module _ (s : Segment) (e : is_inner s ≡ true) where
 -- 2. What a set is: ST, inner segments, and SE or nothing.
 -- none, or one segment that passes
 pub data Optional (p : Segment → Bool) : Option Segment → Type 0 where
-  missing : Optional p none
-  there : {s : Segment} → p s ≡ true → Optional p (some s)
+  missing : Optional p None
+  there : {s : Segment} → p s ≡ true → Optional p (Some s)
 
 pub record WellCut (s : Set) : Type 0 where
   pub header : is_st s.header ≡ true
@@ -88,24 +88,24 @@ unfolding body_of flat
 body_flat no_set = refl
 body_flat (more w ws) = rw w.header
 
-trailer_flat : {ss : List Set} → Sets ss → trailer_of (flat ss) ≡ none
+trailer_flat : {ss : List Set} → Sets ss → trailer_of (flat ss) ≡ None
 unfolding trailer_of flat
 trailer_flat no_set = refl
 trailer_flat (more {s} {ss} w ws) = rw (st_se s.header w.header, w.header)
 
 -- a trailer, or none, and then sets
 module _ {ss : List Set} (ws : Sets ss) where
-  body_end : {t : Option Segment} → Optional is_se t → body_of (listed t ++ flat ss) ≡ []
+  body_end : {t : Option Segment} → Optional is_se t → body_of (option_to_list t ++ flat ss) ≡ []
   unfolding body_of
   body_end missing = body_flat ws
   body_end (there {s} e) = rw (se_st s e, e)
 
-  trailer_end : {t : Option Segment} → Optional is_se t → trailer_of (listed t ++ flat ss) ≡ t
+  trailer_end : {t : Option Segment} → Optional is_se t → trailer_of (option_to_list t ++ flat ss) ≡ t
   unfolding trailer_of
   trailer_end missing = trailer_flat ws
   trailer_end (there {s} e) = rw e
 
-  sets_end : {t : Option Segment} → Optional is_se t → sets_of (listed t ++ flat ss) ≡ sets_of (flat ss)
+  sets_end : {t : Option Segment} → Optional is_se t → sets_of (option_to_list t ++ flat ss) ≡ sets_of (flat ss)
   unfolding sets_of
   sets_end missing = refl
   sets_end (there {s} e) = rw (se_st s e)
@@ -114,7 +114,7 @@ pub sets_flat : {ss : List Set} → Sets ss → sets_of (flat ss) ≡ ss
 unfolding sets_of flat
 sets_flat no_set = refl
 sets_flat (more {s} {ss} w ws) =
-    let rest = listed s.trailer ++ flat ss in
+    let rest = option_to_list s.trailer ++ flat ss in
     rw (
       w.header,
       body_append rest s.body w.body,
@@ -132,7 +132,7 @@ unfolding inside flat
 inside_flat no_set = refl
 inside_flat (more {s} w ws) = rw (w.header, st_se s.header w.header)
 
-inside_end : {t : Option Segment} {ss : List Set} → Optional is_se t → Sets ss → inside (listed t ++ flat ss) ≡ outside (flat ss)
+inside_end : {t : Option Segment} {ss : List Set} → Optional is_se t → Sets ss → inside (option_to_list t ++ flat ss) ≡ outside (flat ss)
 unfolding inside
 inside_end missing ws = inside_flat ws
 inside_end (there {s} e) ws = rw e
@@ -141,10 +141,10 @@ pub outside_flat : {ss : List Set} → Sets ss → outside (flat ss) ≡ false
 unfolding outside flat
 outside_flat no_set = refl
 outside_flat (more {s} {ss} w ws) =
-    rw (w.header, inside_append (listed s.trailer ++ flat ss) s.body w.body, inside_end w.trailer ws) (outside_flat ws)
+    rw (w.header, inside_append (option_to_list s.trailer ++ flat ss) s.body w.body, inside_end w.trailer ws) (outside_flat ws)
 
 -- no segment of sets is one of the envelope
-outer_trailer : {t : Option Segment} → Optional is_se t → all is_outer (listed t) ≡ true
+outer_trailer : {t : Option Segment} → Optional is_se t → all is_outer (option_to_list t) ≡ true
 unfolding all
 outer_trailer missing = refl
 outer_trailer (there {s} e) = all_cons is_outer s [] (outer_se s e) refl
@@ -153,14 +153,14 @@ pub outer_flat : {ss : List Set} → Sets ss → all is_outer (flat ss) ≡ true
 unfolding all flat
 outer_flat no_set = refl
 outer_flat (more {s} {ss} w ws) =
-    all_cons is_outer s.header (s.body ++ (listed s.trailer ++ flat ss)) (outer_st s.header w.header)
-    (all_append is_outer s.body (listed s.trailer ++ flat ss) (all_weaken is_inner is_outer inner_outer s.body w.body)
-    (all_append is_outer (listed s.trailer) (flat ss) (outer_trailer w.trailer) (outer_flat ws)))
+    all_cons is_outer s.header (s.body ++ (option_to_list s.trailer ++ flat ss)) (outer_st s.header w.header)
+    (all_append is_outer s.body (option_to_list s.trailer ++ flat ss) (all_weaken is_inner is_outer inner_outer s.body w.body)
+    (all_append is_outer (option_to_list s.trailer) (flat ss) (outer_trailer w.trailer) (outer_flat ws)))
 
 -- 4. A group without a segment outside its sets is its sets, one after the other.
 abbrev Rejoined : List Segment → Type 0
 Rejoined xs =
-    (inside xs ≡ false → body_of xs ++ (listed (trailer_of xs) ++ flat (sets_of xs)) ≡ xs) × (outside xs ≡ false → flat (sets_of xs) ≡ xs)
+    (inside xs ≡ false → body_of xs ++ (option_to_list (trailer_of xs) ++ flat (sets_of xs)) ≡ xs) × (outside xs ≡ false → flat (sets_of xs) ≡ xs)
 
 rejoin : (s : Segment) (ss : List Segment) (b c : Bool) → is_st s ≡ b → is_se s ≡ c → Rejoined ss → Rejoined (s ∷ ss)
 unfolding inside body_of trailer_of sets_of flat

@@ -1,36 +1,34 @@
 -- Change request 9 makes ISA11 a fourth delimiter where ISA12 knows repetition. The law before it, which had three, is written down again here.
 -- Where ISA11 is no delimiter, every answer is the former one.
-use Rattle.std.specs.Prelude.{if◌then◌else◌}
+use Rattle.std.specs.Prelude.{if◌then◌else◌, option_to_list, unwrap_or, is_none, Option, None, Some}
 use mathlib.Core.Path.{◌≡◌, refl, ◌∙◌, ap, fun_ext}
 use mathlib.Core.Bool.{Bool, true, false, ◌&&◌, ◌||◌, not}
 use mathlib.Core.List.{List, [], ◌∷◌, ◌++◌, map}
-use mathlib.Core.Option.{Option, none, some}
 use Prim.Native.Nat.{ℕ, ◌+◌, ◌≤◌, ◌<◌}
 use native.Mathlib.Omega.{arith}
 use borrow.Author.Tests.{ne_eqb, le-leb, lt-leb}
 use lib.Dec.{ltb, eqb}
 use lib.ListN.{length, take, get_or}
-use Rattle.rules.specs.Base.{Bytes, Rule, ◌⇒◌, first, every, null, is_none, listed, all, any, between, is_digit, is_upper_or_digit, ascii, same, member, last}
+use Rattle.rules.specs.Base.{Bytes, Rule, ◌⇒◌, first, every, null, all, any, between, is_digit, is_upper_or_digit, ascii, same, member, last}
 use Rattle.rules.specs.Numbers.{digits, value, is_date, is_time}
 use Rattle.rules.specs.Cutting.{Segment, field, isa, segments, knows_repetition, repetition_in, delimiters, marks, separates_repetitions, valid, text}
 use Rattle.rules.specs.Tables.{Row, Syntax, Entry, Table}
 use Rattle.rules.specs.Elements.{is_n0, is_dt, is_tm, unsigned, value_length, repeats, element_code, lacks, shuts_out, shows_value, longest_echo, echo_of, Finding, place_codes, found, surplus_at, findings_from, findings}
 use Rattle.rules.specs.Segments.{Note, Present, Standing, unknown, unlisted, before, again, later, entry_at, standing, own_code, moved, skipped, findings_by, missing, segment_note, walk, notes_of}
 use Rattle.rules.specs.Sets.{Set, sets_of, outside, segments_of, control_of, SetReport, notes_in, set_codes, declared_in, set_report}
-use Rattle.rules.specs.Groups.{Group, groups_of, sets, table_in, set_reports, group_codes, verdict, GroupReport, or_else, accepted_in, group_report}
+use Rattle.rules.specs.Groups.{Group, groups_of, sets, table_in, set_reports, group_codes, verdict, GroupReport, accepted_in, group_report}
 use Rattle.rules.specs.Refusals.{call_rules, has_isa, good_marks, good_isa, head_rules, is_terminated, end_rules, enveloped, most_groups, envelope_rules, has_two, closes, counts_groups, trailer_rules, good_gs, header_rules, answer_rules, good_st, set_rules, group_rules, groups_rules, refusal_rules, refusal}
 use Rattle.rules.specs.Response.{out, transaction_sets, isa_out, gs_out, ge_out, iea_out, first_header, respond, response}
 use Rattle.rules.specs.InterchangeAcknowledgment.{note_code_rules, Verdict, verdict_by, interchange_verdict, asks_for_ta1, interchange_rules, interchange_refusal, ta1, interchange_respond, interchange_response}
 use Rattle.rules.specs.Answers.{Replies, functional_acknowledgment, interchange_acknowledgment, called}
 use Rattle.rules.specs.declared.Call.{Call}
 use Rattle.rules.specs.declared.Delimiters.{Delimiters}
-use Rattle.rules.specs.declared.Repetition.TheVariants.{Nothing, By}
 use Rattle.rules.proofs.Logic.{or_none, first_low}
 
 -- 1. The law before repetition. `Delimiters` has a fourth field now, which no definition of this law reads.
 -- the delimiters: byte 3, ISA16 and the byte after it
 unfoldable pub former_delimiters : Bytes → Delimiters
-former_delimiters i = record { element = get_or i 3 0; component = get_or i 104 0; terminator = get_or i 105 0; repetition = Nothing }
+former_delimiters i = record { element = get_or i 3 0; component = get_or i 104 0; terminator = get_or i 105 0; repetition = None }
 
 unfoldable pub former_marks : Delimiters → List ℕ
 former_marks d = d.element ∷ d.component ∷ d.terminator ∷ []
@@ -106,8 +104,8 @@ former_notes_of d t closed header after =
     ++ former_walk d t closed (record { index = 0; used = 1 }) 2 after
 
 abbrev pub former_notes_in : Delimiters → Option Table → Set → List Note
-former_notes_in d none s = []
-former_notes_in d (some t) s = former_notes_of d t (not (is_none s.trailer)) s.header (s.body ++ listed s.trailer)
+former_notes_in d None s = []
+former_notes_in d (Some t) s = former_notes_of d t (not (is_none s.trailer)) s.header (s.body ++ option_to_list s.trailer)
 
 -- the reports of a set and of a group
 unfoldable pub former_set_report : Delimiters → Option Table → List Bytes → Set → SetReport
@@ -138,7 +136,7 @@ former_group_report d g =
       gs06 = field gs 6;
       gs08 = field gs 8;
       verdict = v;
-      included = or_else (declared_in 6 g.trailer) (length (sets g));
+      included = unwrap_or (declared_in 6 g.trailer) (length (sets g));
       received = length (sets g);
       allowed = if same v (ascii "R") then 0 else accepted_in rs;
       codes = codes;
@@ -260,7 +258,7 @@ module _ (d : Delimiters) (r : Row) where
   not_12 : (e : Bytes) → eqb (former_element_code d r e) 12 ≡ false
   not_12 e = ne_eqb (former_element_code d r e) 12 (λ q. omega (arith, low e, q))
 
-module _ (d : Delimiters) (unused : d.repetition ≡ Nothing) where
+module _ (d : Delimiters) (unused : d.repetition ≡ None) where
   same_marks : marks d ≡ former_marks d
   unfolding marks former_marks
   same_marks = rw unused
@@ -325,9 +323,9 @@ module _ (d : Delimiters) (unused : d.repetition ≡ Nothing) where
 
   same_notes : (t : Option Table) (s : Set) → notes_in d t s ≡ former_notes_in d t s
   unfolding notes_of former_notes_of
-  same_notes none s = refl
-  same_notes (some t) s =
-      rw (same_findings (entry_at t 0) s.header, same_walk t (not (is_none s.trailer)) (record { index = 0; used = 1 }) 2 (s.body ++ listed s.trailer))
+  same_notes None s = refl
+  same_notes (Some t) s =
+      rw (same_findings (entry_at t 0) s.header, same_walk t (not (is_none s.trailer)) (record { index = 0; used = 1 }) 2 (s.body ++ option_to_list s.trailer))
 
   same_set_reports : (table : Set → Option Table) (earlier : List Bytes) (ss : List Set)
       → set_reports d table earlier ss ≡ former_set_reports d table earlier ss
@@ -358,7 +356,7 @@ module _ (d : Delimiters) (unused : d.repetition ≡ Nothing) where
   same_groups_rules (g ∷ gs) = rw (same_gs g.header, same_st, same_groups_rules gs)
 
 -- 3. The answers, now and before.
-module _ (i : Bytes) (unused : repetition_in i ≡ Nothing) where
+module _ (i : Bytes) (unused : repetition_in i ≡ None) where
   same_delimiters : delimiters i ≡ former_delimiters i
   unfolding delimiters former_delimiters
   same_delimiters = rw unused
@@ -366,7 +364,7 @@ module _ (i : Bytes) (unused : repetition_in i ≡ Nothing) where
   abbrev d : Delimiters
   d = former_delimiters i
 
-  former_unused : d.repetition ≡ Nothing
+  former_unused : d.repetition ≡ None
   unfolding former_delimiters
   former_unused = refl
 
@@ -415,29 +413,32 @@ module _ (i : Bytes) where
   isa12 = field (isa i) 12
 
   -- It is none where it is `U`. Shut out: a program that cuts at `U`.
-  pub unused_u : isa11 ≡ 85 → repetition_in i ≡ Nothing
+  pub unused_u : isa11 ≡ 85 → repetition_in i ≡ None
   unfolding repetition_in
   unused_u e = rw e (go (knows_repetition isa12))
     where
-      go : (b : Bool) → (if b && false then By 85 else Nothing) ≡ Nothing
+      u : ℕ
+      u = 85
+
+      go : (b : Bool) → (if b && false then Some u else None) ≡ None
       go true = refl
       go false = refl
 
   -- It is none where ISA12 is not five digits. Shut out: a program that reads a version out of other bytes.
-  pub unused_not_digits : digits 5 5 isa12 ≡ false → repetition_in i ≡ Nothing
+  pub unused_not_digits : digits 5 5 isa12 ≡ false → repetition_in i ≡ None
   unfolding repetition_in knows_repetition
   unused_not_digits e = rw e
 
   -- It is none where the value of ISA12 is below 402. Shut out: a program that separates repetitions in 00401.
-  pub unused_early : value isa12 < 402 → repetition_in i ≡ Nothing
+  pub unused_early : value isa12 < 402 → repetition_in i ≡ None
   unfolding repetition_in knows_repetition
   unused_early h = rw (lt-leb 402 (value isa12) h) (go (digits 5 5 isa12))
     where
-      go : (b : Bool) → (if b && false && not (eqb isa11 85) then By isa11 else Nothing) ≡ Nothing
+      go : (b : Bool) → (if b && false && not (eqb isa11 85) then Some isa11 else None) ≡ None
       go true = refl
       go false = refl
 
   -- Else it is one. Shut out: a law that is kept by never separating repetitions.
-  pub separates : (isa11 ≡ 85 → ⊥) → digits 5 5 isa12 ≡ true → 402 ≤ value isa12 → repetition_in i ≡ By isa11
+  pub separates : (isa11 ≡ 85 → ⊥) → digits 5 5 isa12 ≡ true → 402 ≤ value isa12 → repetition_in i ≡ Some isa11
   unfolding repetition_in knows_repetition
   separates u t h = rw (ne_eqb isa11 85 u, t, le-leb 402 (value isa12) h)

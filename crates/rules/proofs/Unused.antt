@@ -3,7 +3,7 @@
 use mathlib.Core.Path.{◌≡◌, refl, sym, ◌∙◌}
 use mathlib.Core.Bool.{Bool, true, false, ◌&&◌, ◌||◌, not, false≢true}
 use mathlib.Core.List.{List, [], ◌∷◌, map}
-use mathlib.Core.Option.{Option, none, some}
+use Rattle.std.specs.Prelude.{Option, None, Some}
 use Prim.Native.Nat.{ℕ, zero, suc, ◌+◌}
 use native.Mathlib.Omega.{arith}
 use borrow.Author.Tests.{not-true, eqb-true, ne_eqb, leb-true, lt-ltb}
@@ -108,8 +108,8 @@ plain_findings d e s h =
 
 -- 3. Document 01's tables are such.
 abbrev pub plain_in : Option Table → Bool
-plain_in none = true
-plain_in (some t) = all is_plain t.entries
+plain_in None = true
+plain_in (Some t) = all is_plain t.entries
 
 -- A table with a time or with a note E in it is shut out.
 pub editions_plain : (edition : Bytes) → plain_in (edition_table edition) ≡ true
@@ -175,8 +175,8 @@ module _ (d : Delimiters) (t : Table) (h : all is_plain t.entries ≡ true) wher
 
 notes_used : (d : Delimiters) (t : Option Table) (s : Set) → plain_in t ≡ true → all is_used_in (notes_in d t s) ≡ true
 unfolding notes_of
-notes_used d none s h = none_used
-notes_used d (some t) s h =
+notes_used d None s h = none_used
+notes_used d (Some t) s h =
     all_append is_used_in _ _
     (segment_used _ _ _ _ (plain_findings d (entry_at t 0) s.header (entry_plain t.entries 0 h)))
     (walk_used d t h _ _ _ _)

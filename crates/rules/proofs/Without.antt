@@ -1,16 +1,15 @@
 -- Change request 9: an interchange whose groups do not hold its repetition separator is answered as the same one with `U` in ISA11.
-use Rattle.std.specs.Prelude.{if◌then◌else◌}
+use Rattle.std.specs.Prelude.{if◌then◌else◌, option_to_list, is_none, Option, None, Some}
 use mathlib.Core.Path.{◌≡◌, refl, sym, ap, ◌∙◌, fun_ext}
 use mathlib.Core.Bool.{Bool, true, false, ◌&&◌, ◌||◌, not}
 use mathlib.Core.List.{List, [], ◌∷◌, ◌++◌, map}
-use mathlib.Core.Option.{Option, none, some}
 use Prim.Native.Nat.{ℕ, zero, suc, ◌+◌, ◌≤◌, ◌<◌}
 use native.Mathlib.Omega.{arith}
 use borrow.Author.Tests.{not-true}
 use lib.Dec.{eqb, lit<}
 use lib.ListN.{length, drop, get_or, set}
 use lib.Seq.{drop-set-lt}
-use Rattle.rules.specs.Base.{Bytes, Rule, ◌⇒◌, ascii, first, is_none, listed, all, any, push, front, last}
+use Rattle.rules.specs.Base.{Bytes, Rule, ◌⇒◌, ascii, first, all, any, push, front, last}
 use Rattle.rules.specs.Cutting.{Segment, field, is_named, segments, isa, repetition_in, delimiters, marks, separates_repetitions, valid, text}
 use Rattle.rules.specs.Tables.{Row, Syntax, Entry, Table}
 use Rattle.rules.specs.Elements.{repeats, element_code, Finding, place_codes, found, findings_from, findings}
@@ -24,7 +23,6 @@ use Rattle.rules.specs.Answers.{functional_acknowledgment, interchange_acknowled
 use Rattle.rules.specs.Damage.{free}
 use Rattle.rules.specs.declared.Call.{Call}
 use Rattle.rules.specs.declared.Delimiters.{Delimiters}
-use Rattle.rules.specs.declared.Repetition.TheVariants.{Nothing, By}
 use Rattle.rules.proofs.Logic.{all_head, all_tail, all_cons, all_append, all_anywhere, silent, Each, each_map, each_weaken}
 use Rattle.rules.proofs.Cuts.{segments_other}
 use Rattle.rules.proofs.Facts.{first_of, refusal_blocks}
@@ -34,7 +32,7 @@ use Rattle.rules.proofs.Separator.{with_u, isa_before, isa13_kept, isa14_kept, i
 
 -- the same delimiters, but no repetition separator
 abbrev without : Delimiters → Delimiters
-without d = record { element = d.element; component = d.component; terminator = d.terminator; repetition = Nothing }
+without d = record { element = d.element; component = d.component; terminator = d.terminator; repetition = None }
 
 -- 1. Bytes that do not hold it, in what is cut out of them.
 module _ (b : ℕ) where
@@ -54,7 +52,7 @@ module _ (b : ℕ) where
 
   -- a set, and a group, in which it stands nowhere
   abbrev FreeSet : Set → Type 0
-  FreeSet s = (is_free s.header ≡ true) × (all is_free (s.body ++ listed s.trailer) ≡ true)
+  FreeSet s = (is_free s.header ≡ true) × (all is_free (s.body ++ option_to_list s.trailer) ≡ true)
 
   abbrev FreeGroup : Group → Type 0
   FreeGroup g = (is_free g.header ≡ true) × (all is_free g.body ≡ true)
@@ -68,12 +66,12 @@ module _ (b : ℕ) where
       go true h = refl
       go false h = all_cons is_free s (body_of ss) (all_head is_free s ss e) h
 
-  trailer_free : (ss : List Segment) → all is_free ss ≡ true → all is_free (listed (trailer_of ss)) ≡ true
+  trailer_free : (ss : List Segment) → all is_free ss ≡ true → all is_free (option_to_list (trailer_of ss)) ≡ true
   unfolding trailer_of all
   trailer_free [] e = refl
   trailer_free (s ∷ ss) e = go (is_se s) (is_st s) (trailer_free ss (all_tail is_free s ss e))
     where
-      go : (c k : Bool) → all is_free (listed (trailer_of ss)) ≡ true → all is_free (listed (if c then some s else (if k then none else trailer_of ss))) ≡ true
+      go : (c k : Bool) → all is_free (option_to_list (trailer_of ss)) ≡ true → all is_free (option_to_list (if c then Some s else (if k then None else trailer_of ss))) ≡ true
       go true k h = rw (all_head is_free s ss e)
       go false true h = refl
       go false false h = h
@@ -86,7 +84,7 @@ module _ (b : ℕ) where
       go : (c : Bool) → all is_free ss ≡ true → Each FreeSet (sets_of ss)
           → Each FreeSet (if c then record { header = s; body = body_of ss; trailer = trailer_of ss } ∷ sets_of ss else sets_of ss)
       go true after h =
-          ((all_head is_free s ss e, all_append is_free (body_of ss) (listed (trailer_of ss)) (body_free ss after) (trailer_free ss after)), h)
+          ((all_head is_free s ss e, all_append is_free (body_of ss) (option_to_list (trailer_of ss)) (body_free ss after) (trailer_free ss after)), h)
       go false after h = h
 
   cut_free : (ss : List Segment) → all is_free ss ≡ true → Each (λ p. all is_free p ≡ true) (cut_after_ge ss)
@@ -105,7 +103,7 @@ module _ (b : ℕ) where
   with_free gs inner e h = go (is_ge (last [] inner))
     where
       go : (c : Bool)
-          → FreeGroup (if c then record { header = gs; body = front inner; trailer = some (last [] inner) } else record { header = gs; body = inner; trailer = none })
+          → FreeGroup (if c then record { header = gs; body = front inner; trailer = Some (last [] inner) } else record { header = gs; body = inner; trailer = None })
       go true = (e, front_free inner h)
       go false = (e, h)
 
@@ -123,7 +121,7 @@ module _ (b : ℕ) where
       each_map FreeGroup group ps (each_weaken (λ p. all is_free p ≡ true) (λ p. FreeGroup (group p)) group_free ps (cut_free (front ss) (front_free ss e)))
 
 -- 2. Each definition with the separator and without it, on what does not hold it.
-module _ (d : Delimiters) (b : ℕ) (separates : d.repetition ≡ By b) where
+module _ (d : Delimiters) (b : ℕ) (separates : d.repetition ≡ Some b) where
   valid_without : (c : ℕ) → eqb c b ≡ false → valid d c ≡ valid (without d) c
   unfolding valid marks any
   valid_without c n = rw (separates, n)
@@ -199,11 +197,11 @@ module _ (d : Delimiters) (b : ℕ) (separates : d.repetition ≡ By b) where
 
   notes_without : (t : Option Table) (s : Set) → FreeSet b s → notes_in d t s ≡ notes_in (without d) t s
   unfolding notes_of
-  notes_without none s h = refl
-  notes_without (some t) s h =
+  notes_without None s h = refl
+  notes_without (Some t) s h =
       rw (
         findings_without s.header h.0 (entry_at t 0),
-        walk_without t (not (is_none s.trailer)) (record { index = 0; used = 1 }) 2 (s.body ++ listed s.trailer) h.1,
+        walk_without t (not (is_none s.trailer)) (record { index = 0; used = 1 }) 2 (s.body ++ option_to_list s.trailer) h.1,
       )
 
   reports_without : (table : Set → Option Table) (earlier : List Bytes) (ss : List Set) → Each (FreeSet b) ss
@@ -301,11 +299,11 @@ blocks_same : (a b c : ℕ) (ns ms : List ℕ) → first_of ns ≡ first_of ms �
 unfolding first_of
 blocks_same a b c ns ms e = rw e
 
-module _ (i : Bytes) (b : ℕ) (separates : repetition_in i ≡ By b) (e : first (head_rules i) ≡ 0) where
+module _ (i : Bytes) (b : ℕ) (separates : repetition_in i ≡ Some b) (e : first (head_rules i) ≡ 0) where
   abbrev d : Delimiters
   d = delimiters i
 
-  separates_d : d.repetition ≡ By b
+  separates_d : d.repetition ≡ Some b
   unfolding delimiters
   separates_d = separates
 

@@ -1,12 +1,13 @@
 -- "What is delivered": the answer, and for each of its cases the number, the length and the buffer afterwards.
-use Rattle.std.specs.Prelude.{ℕ, ◌≡◌, ◌++◌, leb, eqb, length, drop, if◌then◌else◌}
+use Rattle.std.specs.Prelude.{ℕ, ◌≡◌, ◌++◌, leb, eqb, length, drop, Result, Ok, Err, if◌then◌else◌}
 use Rattle.rules.specs.Base.{Bytes}
 use Rattle.rules.specs.Refusals.{refusal}
 use Rattle.rules.specs.Response.{response}
 use Rattle.rules.specs.InterchangeAcknowledgment.{interchange_refusal, interchange_response}
-use Rattle.rules.specs.declared.Answer.{Answer}
-use Rattle.rules.specs.declared.Answer.TheVariants.{Written, Refused, TooLong}
+use Rattle.rules.specs.Refused.{number_of, refused}
 use Rattle.rules.specs.declared.Call.{Call}
+use Rattle.rules.specs.declared.Refusal.{Refusal}
+use Rattle.rules.specs.declared.Refusal.TheVariants.{TooLong}
 
 -- 1. What is said to an interchange, whatever the buffer.
 -- the number of the refusal, 14 apart, 0 for none; and the response, which is given only then
@@ -27,30 +28,35 @@ abbrev pub interchange_acknowledgment : Replies
 interchange_acknowledgment i call = record { refusal = interchange_refusal i call; response = interchange_response i call }
 
 -- 2. How it is delivered.
+-- the length of the response, or the refusal
+abbrev pub Answer : Type 0
+Answer = Result ℕ Refusal
+
 -- a response in a buffer with so much room; 14 where it does not fit
 abbrev pub fitting : Bytes → ℕ → Answer
-fitting r room = if leb (length r) room then Written (length r) else TooLong (length r)
+fitting r room = if leb (length r) room then Ok (length r) else Err (TooLong (length r))
 
 -- the answer to a call
 unfoldable pub answer : Reply → ℕ → Answer
-answer reply room = if eqb reply.refusal 0 then fitting reply.response room else Refused reply.refusal
+answer reply room = if eqb reply.refusal 0 then fitting reply.response room else Err (refused reply.refusal)
 
 -- the buffer after an answer: the response at its start where it was written, and every other byte as lent
 abbrev pub buffer : Answer → Bytes → Bytes → Bytes
-buffer (Written n) r lent = r ++ drop n lent
-buffer (Refused n) r lent = lent
-buffer (TooLong n) r lent = lent
+buffer (Ok n) r lent = r ++ drop n lent
+buffer (Err e) r lent = lent
 
 -- document 01's number and length for each case
 abbrev pub number : Answer → ℕ
-number (Written n) = 0
-number (Refused n) = n
-number (TooLong n) = 14
+number (Ok n) = 0
+number (Err e) = number_of e
+
+abbrev pub needed : Refusal → ℕ
+needed (TooLong n) = n
+needed e = 0
 
 abbrev pub size : Answer → ℕ
-size (Written n) = n
-size (Refused n) = 0
-size (TooLong n) = n
+size (Ok n) = n
+size (Err e) = needed e
 
 -- all that a caller sees
 pub record Outcome : Type 0 where
@@ -66,8 +72,13 @@ outcome a left = record { number = number a; size = size a; buffer = left }
 unfoldable pub Allowed : Reply → Bytes → Answer → Bytes → Type 0
 Allowed reply lent a left = (a ≡ answer reply (length lent)) × (left ≡ buffer a reply.response lent)
 
+-- a response as it is delivered: at the start of the buffer, with its length; where it does not fit 14, and the length that is needed
+abbrev pub delivered : Bytes → Bytes → Outcome
+delivered r lent =
+    if leb (length r) (length lent) then record { number = 0; size = length r; buffer = r ++ drop (length r) lent }
+    else record { number = 14; size = length r; buffer = lent }
+
 -- the outcome of a call
 unfoldable pub called : Reply → Bytes → Outcome
 called reply lent =
-    let a = answer reply (length lent) in
-    outcome a (buffer a reply.response lent)
+    if eqb reply.refusal 0 then delivered reply.response lent else record { number = reply.refusal; size = 0; buffer = lent }

@@ -1,8 +1,7 @@
 -- The words that document 01 is written down in: bytes, tests, lists, and rules with their numbers.
-use Rattle.std.specs.Prelude.{ℕ, Bool, true, false, ◌&&◌, ◌||◌, List, [], ◌∷◌, leb, eqb, cond}
+use Rattle.std.specs.Prelude.{ℕ, Bool, true, false, ◌&&◌, ◌||◌, List, [], ◌∷◌, leb, eqb, cond, Option, None, Some}
 use Prim.Native.String.{String}
 use Prim.Native.Char.{code}
-use Rattle.std.proofs.Math.Option.{Option, none, some}
 
 abbrev pub Bytes : Type 0
 Bytes = List ℕ
@@ -70,19 +69,10 @@ module _ {ℓ} {A : Type ℓ} where
   last d [] = d
   last d (x ∷ xs) = last x xs
 
-  abbrev pub is_none : Option A → Bool
-  is_none none = true
-  is_none (some x) = false
-
-  -- there is one, and it passes
-  abbrev pub holds : (A → Bool) → Option A → Bool
-  holds p none = false
-  holds p (some x) = p x
-
-  -- the list of none or one
-  abbrev pub listed : Option A → List A
-  listed none = []
-  listed (some x) = x ∷ []
+-- there is one, and it passes
+abbrev pub holds : {A : Type 0} → (A → Bool) → Option A → Bool
+holds p None = false
+holds p (Some x) = p x
 
 -- one of the list
 abbrev pub member : Bytes → List Bytes → Bool

@@ -1,11 +1,9 @@
 -- "Cutting": segments and their elements, ISA by its places, the delimiters, and the valid bytes.
-use Rattle.std.specs.Prelude.{ℕ, ◌+◌, Bool, true, false, ◌&&◌, not, List, [], ◌∷◌, map, leb, eqb, length, get_or, if◌then◌else◌}
+use Rattle.std.specs.Prelude.{ℕ, ◌+◌, Bool, true, false, ◌&&◌, not, List, [], ◌∷◌, map, leb, eqb, length, get_or, if◌then◌else◌, None, Option, Some}
 use Rattle.std.proofs.Math.Seq.{slice}
 use Rattle.rules.specs.Base.{Bytes, between, same, all, any, push}
 use Rattle.rules.specs.Numbers.{digits, value}
 use Rattle.rules.specs.declared.Delimiters.{Delimiters}
-use Rattle.rules.specs.declared.Repetition.{Repetition}
-use Rattle.rules.specs.declared.Repetition.TheVariants.{Nothing, By}
 
 -- 1. Segments.
 -- A segment is its fields: field 0 is the id, and field n is element n.
@@ -58,10 +56,10 @@ unfoldable pub knows_repetition : Bytes → Bool
 knows_repetition isa12 = digits 5 5 isa12 && leb 402 (value isa12)
 
 -- the repetition separator: ISA11, which is byte 82, where ISA12 knows repetition and ISA11 is not `U`; else nothing
-unfoldable pub repetition_in : Bytes → Repetition
+unfoldable pub repetition_in : Bytes → Option ℕ
 repetition_in i =
     let isa11 = get_or i 82 0 in
-    if knows_repetition (field (isa i) 12) && not (eqb isa11 85) then By isa11 else Nothing
+    if knows_repetition (field (isa i) 12) && not (eqb isa11 85) then Some isa11 else None
 
 -- the delimiters that an interchange brings: byte 3, ISA16, the byte after it, and ISA11 where it is the repetition separator
 unfoldable pub delimiters : Bytes → Delimiters
@@ -69,9 +67,9 @@ delimiters i =
     record { element = get_or i 3 0; component = get_or i 104 0; terminator = get_or i 105 0; repetition = repetition_in i }
 
 -- the list of none or one
-abbrev pub repetition_mark : Repetition → List ℕ
-repetition_mark Nothing = []
-repetition_mark (By b) = b ∷ []
+abbrev pub repetition_mark : Option ℕ → List ℕ
+repetition_mark None = []
+repetition_mark (Some b) = b ∷ []
 
 -- the list of the delimiters: three, or four
 unfoldable pub marks : Delimiters → List ℕ

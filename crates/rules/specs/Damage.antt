@@ -1,7 +1,7 @@
 -- Demand 3, "one spoiled set stays one spoiled set", group by group: what it is to put other segments into sets of any groups of an
 -- interchange, and what then stays.
-use Rattle.std.specs.Prelude.{◌≡◌, Bool, true, ◌&&◌, not, List, [], ◌∷◌, ◌++◌, map, ℕ, ◌+◌, ◌<◌, eqb, length, take, drop, get_or}
-use Rattle.rules.specs.Base.{Bytes, all, null, last, listed}
+use Rattle.std.specs.Prelude.{◌≡◌, Bool, true, ◌&&◌, not, List, [], ◌∷◌, ◌++◌, map, ℕ, ◌+◌, ◌<◌, eqb, length, take, drop, get_or, option_to_list}
+use Rattle.rules.specs.Base.{Bytes, all, null, last}
 use Rattle.rules.specs.Cutting.{Segment, delimiters, isa, segments}
 use Rattle.rules.specs.Sets.{Set, is_st, is_se}
 use Rattle.rules.specs.Numbers.{padded}
@@ -43,7 +43,7 @@ pub data Damaged (d : Delimiters) : List Set → List Set → Type 0 where
 -- the segments of sets, one set after the other
 unfoldable pub flat : List Set → List Segment
 flat [] = []
-flat (s ∷ ss) = s.header ∷ (s.body ++ (listed s.trailer ++ flat ss))
+flat (s ∷ ss) = s.header ∷ (s.body ++ (option_to_list s.trailer ++ flat ss))
 
 -- the group with these sets in the place of its own
 abbrev pub with_sets : Group → List Set → Group
@@ -62,7 +62,7 @@ groups_in i = groups_of (segments (delimiters i) i)
 -- the segments of groups, one group after the other
 unfoldable pub flat_groups : List Group → List Segment
 flat_groups [] = []
-flat_groups (g ∷ gs) = g.header ∷ (g.body ++ (listed g.trailer ++ flat_groups gs))
+flat_groups (g ∷ gs) = g.header ∷ (g.body ++ (option_to_list g.trailer ++ flat_groups gs))
 
 -- the bytes of the interchange i with these groups in the place of its own
 unfoldable pub rebuilt : Bytes → List Group → Bytes

@@ -1,7 +1,6 @@
 -- "Verdicts", the group: its parts, and what is reported of it (AK1 and AK9).
-use Rattle.std.specs.Prelude.{ℕ, Bool, ◌||◌, not, List, [], ◌∷◌, map, eqb, length, take, drop, get_or, if◌then◌else◌}
-use Rattle.std.proofs.Math.Option.{Option, none, some}
-use Rattle.rules.specs.Base.{Bytes, ◌⇒◌, every, null, is_none, holds, ascii, same, member, keep, push, front, last}
+use Rattle.std.specs.Prelude.{ℕ, Bool, ◌||◌, not, List, [], ◌∷◌, map, eqb, length, take, drop, get_or, if◌then◌else◌, is_none, unwrap_or, Option, None, Some}
+use Rattle.rules.specs.Base.{Bytes, ◌⇒◌, every, null, holds, ascii, same, member, keep, push, front, last}
 use Rattle.rules.specs.Cutting.{Segment, field, is_named}
 use Rattle.rules.specs.Numbers.{declares}
 use Rattle.rules.specs.Tables.{Table, edition_table, set_table}
@@ -20,8 +19,8 @@ is_ge = is_named (ascii "GE")
 -- GS and what follows it, of which the last may be GE
 unfoldable pub group_with : Segment → List Segment → Group
 group_with gs inner =
-    if is_ge (last [] inner) then record { header = gs; body = front inner; trailer = some (last [] inner) }
-    else record { header = gs; body = inner; trailer = none }
+    if is_ge (last [] inner) then record { header = gs; body = front inner; trailer = Some (last [] inner) }
+    else record { header = gs; body = inner; trailer = None }
 
 -- segments cut after each GE; those after the last GE are a piece too
 unfoldable pub cut_after_ge : List Segment → List (List Segment)
@@ -45,7 +44,7 @@ edition gs = take 6 (field gs 8)
 
 -- the table of a set in a group with this GS
 unfoldable pub table_in : Segment → Set → Option Table
-table_in gs s = if supported gs then set_table (edition gs) (field s.header 1) else none
+table_in gs s = if supported gs then set_table (edition gs) (field s.header 1) else None
 
 -- the reports of sets, each by its table; earlier are the ST02 of those before
 unfoldable pub set_reports : Delimiters → (Set → Option Table) → List Bytes → List Set → List SetReport
@@ -80,10 +79,6 @@ pub record GroupReport : Type 0 where
   pub codes : List ℕ
   pub sets : List SetReport
 
-abbrev pub or_else : Option ℕ → ℕ → ℕ
-or_else none n = n
-or_else (some m) n = m
-
 -- the number of sets accepted
 abbrev pub accepted_in : List SetReport → ℕ
 accepted_in rs = length (keep accepted rs)
@@ -99,7 +94,7 @@ group_report d g =
       gs06 = field gs 6;
       gs08 = field gs 8;
       verdict = v;
-      included = or_else (declared_in 6 g.trailer) (length (sets g));
+      included = unwrap_or (declared_in 6 g.trailer) (length (sets g));
       received = length (sets g);
       allowed = if same v (ascii "R") then 0 else accepted_in rs;
       codes = codes;

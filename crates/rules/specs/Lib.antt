@@ -3,10 +3,12 @@ pub mod Cutting
 pub mod Numbers
 pub mod Tables
 pub mod Elements
+pub mod Codes
 pub mod Segments
 pub mod Sets
 pub mod Groups
 pub mod Refusals
+pub mod Refused
 pub mod Response
 pub mod InterchangeAcknowledgment
 pub mod Answers

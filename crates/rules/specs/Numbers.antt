@@ -1,6 +1,5 @@
 -- Digits and numbers, the declared counts, and the rules DT and TM.
-use Rattle.std.specs.Prelude.{ℕ, zero, suc, ◌+◌, ◌-◌, ◌*◌, ◌/◌, ◌%◌, Bool, ◌&&◌, ◌||◌, not, [], ◌∷◌, ◌++◌, leb, ltb, eqb, length, take, drop, if◌then◌else◌}
-use Rattle.std.proofs.Math.Option.{Option, none, some}
+use Rattle.std.specs.Prelude.{ℕ, zero, suc, ◌+◌, ◌-◌, ◌*◌, ◌/◌, ◌%◌, Bool, ◌&&◌, ◌||◌, not, [], ◌∷◌, ◌++◌, leb, ltb, eqb, length, take, drop, if◌then◌else◌, Option, None, Some}
 use Rattle.rules.specs.Base.{Bytes, ◌⇒◌, first, between, is_digit, all, any, holds}
 
 -- lo to hi digits and nothing else
@@ -17,7 +16,7 @@ value = value_from 0
 
 -- the count that one to hi digits stand for
 unfoldable pub count_in : ℕ → Bytes → Option ℕ
-count_in hi bs = if digits 1 hi bs then some (value bs) else none
+count_in hi bs = if digits 1 hi bs then Some (value bs) else None
 
 -- SE01, GE01 or IEA01 declares the count n
 abbrev pub declares : ℕ → Bytes → ℕ → Bool

@@ -1,13 +1,11 @@
 -- "One exchange whole": what a program prints for its input, a first line with the caller's numbers and then the interchange.
-use Rattle.std.specs.Prelude.{ℕ, Bool, ◌&&◌, [], ◌∷◌, ◌++◌, eqb, take, drop, get_or, if◌then◌else◌}
-use Rattle.std.proofs.Math.Option.{Option, none, some}
+use Rattle.std.specs.Prelude.{ℕ, Bool, ◌&&◌, [], ◌∷◌, ◌++◌, eqb, take, drop, get_or, if◌then◌else◌, Option, None, Some, Ok, Err}
 use Rattle.std.proofs.Math.Seq.{slice}
 use Rattle.rules.specs.Base.{Bytes, ascii}
 use Rattle.rules.specs.Numbers.{digits, value, decimal}
-use Rattle.rules.specs.Answers.{Reply, Replies, functional_acknowledgment, interchange_acknowledgment, answer}
+use Rattle.rules.specs.Answers.{Reply, Replies, functional_acknowledgment, interchange_acknowledgment, Answer, answer}
 use Rattle.rules.specs.declared.Call.{Call}
-use Rattle.rules.specs.declared.Answer.{Answer}
-use Rattle.rules.specs.declared.Answer.TheVariants.{Written, Refused, TooLong}
+use Rattle.rules.specs.Refused.{number_of}
 
 -- what stands before the first LF and after it, where there is one
 pub record Input : Type 0 where
@@ -15,14 +13,14 @@ pub record Input : Type 0 where
   pub interchange : Bytes
 
 abbrev pub behind_byte : ℕ → Option Input → Option Input
-behind_byte b none = none
-behind_byte b (some i) = some (record { line = b ∷ i.line; interchange = i.interchange })
+behind_byte b None = None
+behind_byte b (Some i) = Some (record { line = b ∷ i.line; interchange = i.interchange })
 
 unfoldable pub parted : Bytes → Option Input
-parted [] = none
+parted [] = None
 parted (b ∷ bs) =
     let r = parted bs in
-    if eqb b 10 then some (record { line = []; interchange = bs }) else behind_byte b r
+    if eqb b 10 then Some (record { line = []; interchange = bs }) else behind_byte b r
 
 -- 8, 4 and 1 to 9 digits with one space between
 unfoldable pub is_call : Bytes → Bool
@@ -38,9 +36,8 @@ refused_text n = ascii "refused " ++ decimal n ++ ascii "\n"
 
 -- an answer as it is printed
 abbrev pub printed_as : Answer → Bytes → Bytes
-printed_as (Written n) r = r
-printed_as (Refused n) r = refused_text n
-printed_as (TooLong n) r = refused_text 14
+printed_as (Ok n) r = r
+printed_as (Err e) r = refused_text (number_of e)
 
 -- a reply as it is printed, with so much room for the response
 abbrev pub printed_reply : Reply → ℕ → Bytes
@@ -53,8 +50,8 @@ printed_call replies i room =
     if is_call i.line then t else refused_text 1
 
 abbrev pub printed_for : Replies → Option Input → ℕ → Bytes
-printed_for replies none room = refused_text 1
-printed_for replies (some i) room = printed_call replies i room
+printed_for replies None room = refused_text 1
+printed_for replies (Some i) room = printed_call replies i room
 
 -- what is printed of an acknowledgment for an input
 unfoldable pub printed : Replies → Bytes → ℕ → Bytes

@@ -1,5 +1,5 @@
 -- "Refusal numbers, in the order of checking": 1 to 13, as blocks of rules under one `first`.
-use Rattle.std.specs.Prelude.{ℕ, ◌/◌, ◌%◌, Bool, true, ◌&&◌, ◌||◌, not, List, [], ◌∷◌, ◌++◌, leb, eqb, length, take, drop, get_or}
+use Rattle.std.specs.Prelude.{ℕ, ◌/◌, ◌%◌, Bool, true, ◌&&◌, ◌||◌, not, List, [], ◌∷◌, ◌++◌, leb, eqb, length, take, drop, get_or, None, Option, Some}
 use Rattle.rules.specs.Base.{Bytes, Rule, ◌⇒◌, first, null, all, any, between, is_digit, is_upper, is_lower, is_upper_or_digit, ascii, same, member, last}
 use Rattle.rules.specs.Cutting.{Segment, field, is_named, delimiters, marks, separators, valid, text, isa, segments}
 use Rattle.rules.specs.Numbers.{digits, declares, is_day, is_date, is_time}
@@ -7,8 +7,6 @@ use Rattle.rules.specs.Sets.{sets_of, outside}
 use Rattle.rules.specs.Groups.{Group, groups_of}
 use Rattle.rules.specs.declared.Call.{Call}
 use Rattle.rules.specs.declared.Delimiters.{Delimiters}
-use Rattle.rules.specs.declared.Repetition.{Repetition}
-use Rattle.rules.specs.declared.Repetition.TheVariants.{Nothing, By}
 
 -- 1: the caller's numbers
 unfoldable pub good_call : Call → Bool
@@ -36,9 +34,9 @@ unfoldable pub good_marks : List ℕ → Bool
 good_marks bs = distinct bs && all plain bs
 
 -- 5: the fields of ISA that are text: all of them, but ISA11 where it is the repetition separator
-abbrev pub text_fields : Repetition → Segment → List Bytes
-text_fields Nothing s = s
-text_fields (By b) s = take 11 s ++ drop 12 s
+abbrev pub text_fields : Option ℕ → Segment → List Bytes
+text_fields None s = s
+text_fields (Some b) s = take 11 s ++ drop 12 s
 
 unfoldable pub good_isa : Delimiters → Segment → Bool
 good_isa d s =

@@ -1,6 +1,5 @@
 -- "Notes on segments (AK3)": the walk of a set through its table.
-use Rattle.std.specs.Prelude.{ℕ, ◌+◌, Bool, ◌&&◌, not, List, [], ◌∷◌, ◌++◌, map, ltb, eqb, length, get_or, if◌then◌else◌}
-use Rattle.std.proofs.Math.Option.{Option, none, some}
+use Rattle.std.specs.Prelude.{ℕ, ◌+◌, Bool, ◌&&◌, not, List, [], ◌∷◌, ◌++◌, map, ltb, eqb, length, get_or, if◌then◌else◌, Option, None, Some}
 use Rattle.std.proofs.Math.Seq.{slice}
 use Rattle.rules.specs.Base.{Bytes, ◌⇒◌, every, null, all, between, is_upper_or_digit, ascii, same, member, keep}
 use Rattle.rules.specs.Cutting.{Segment, field}
@@ -37,13 +36,13 @@ entry_at t k = get_or t.entries k no_entry
 
 -- the index of the entry with this id, where there is one; the first of the list has index k
 unfoldable pub index_from : ℕ → Bytes → List Entry → Option ℕ
-index_from k id [] = none
-index_from k id (e ∷ es) = let r = index_from (k + 1) id es in if same e.id id then some k else r
+index_from k id [] = None
+index_from k id (e ∷ es) = let r = index_from (k + 1) id es in if same e.id id then Some k else r
 
 -- the index against that of the present entry
 abbrev pub compared : ℕ → Option ℕ → Standing
-compared present none = unlisted
-compared present (some k) = if ltb k present then before k else (if eqb k present then again k else later k)
+compared present None = unlisted
+compared present (Some k) = if ltb k present then before k else (if eqb k present then again k else later k)
 
 -- how a segment with this id stands
 unfoldable pub standing : Table → Present → Bytes → Standing

@@ -1,7 +1,6 @@
 -- "Verdicts", the sets: their cutting, and what is reported of each (AK2 to AK5).
-use Rattle.std.specs.Prelude.{ℕ, Bool, false, ◌||◌, not, List, [], ◌∷◌, ◌++◌, length, if◌then◌else◌}
-use Rattle.std.proofs.Math.Option.{Option, none, some}
-use Rattle.rules.specs.Base.{Bytes, ◌⇒◌, every, null, is_none, holds, listed, ascii, same, member}
+use Rattle.std.specs.Prelude.{ℕ, Bool, false, ◌||◌, not, List, [], ◌∷◌, ◌++◌, length, if◌then◌else◌, option_to_list, is_none, Option, None, Some}
+use Rattle.rules.specs.Base.{Bytes, ◌⇒◌, every, null, holds, ascii, same, member}
 use Rattle.rules.specs.Cutting.{Segment, field, is_named}
 use Rattle.rules.specs.Numbers.{count_in, declares}
 use Rattle.rules.specs.Tables.{Table}
@@ -27,8 +26,8 @@ body_of (s ∷ ss) = let r = body_of ss in if is_st s || is_se s then [] else s 
 
 -- the SE, where it comes before the next ST
 unfoldable pub trailer_of : List Segment → Option Segment
-trailer_of [] = none
-trailer_of (s ∷ ss) = let r = trailer_of ss in if is_se s then some s else (if is_st s then none else r)
+trailer_of [] = None
+trailer_of (s ∷ ss) = let r = trailer_of ss in if is_se s then Some s else (if is_st s then None else r)
 
 -- the sets of a group: one for each ST
 unfoldable pub sets_of : List Segment → List Set
@@ -53,7 +52,7 @@ unfoldable mutual
 
 -- from ST to SE
 abbrev pub segments_of : Set → List Segment
-segments_of s = s.header ∷ (s.body ++ listed s.trailer)
+segments_of s = s.header ∷ (s.body ++ option_to_list s.trailer)
 
 -- ST02
 abbrev pub control_of : Set → Bytes
@@ -70,8 +69,8 @@ pub record SetReport : Type 0 where
 
 -- a set that is not supported has no table, and no AK3
 abbrev pub notes_in : Delimiters → Option Table → Set → List Note
-notes_in d none s = []
-notes_in d (some t) s = notes_of d t (not (is_none s.trailer)) s.header (s.body ++ listed s.trailer)
+notes_in d None s = []
+notes_in d (Some t) s = notes_of d t (not (is_none s.trailer)) s.header (s.body ++ option_to_list s.trailer)
 
 -- the codes of AK5; earlier are the ST02 of the sets before it
 unfoldable pub set_codes : Option Table → List Note → List Bytes → Set → List ℕ
@@ -86,8 +85,8 @@ set_codes t notes earlier s = every (
 
 -- the count that a trailer declares in at most hi digits
 abbrev pub declared_in : ℕ → Option Segment → Option ℕ
-declared_in hi none = none
-declared_in hi (some s) = count_in hi (field s 1)
+declared_in hi None = None
+declared_in hi (Some s) = count_in hi (field s 1)
 
 unfoldable pub set_report : Delimiters → Option Table → List Bytes → Set → SetReport
 set_report d t earlier s =

@@ -1,6 +1,5 @@
 -- "Tables": what a table is, and the two tables of document 01.
-use Rattle.std.specs.Prelude.{ℕ, Bool, true, false, List, [], ◌∷◌, if◌then◌else◌}
-use Rattle.std.proofs.Math.Option.{Option, none, some}
+use Rattle.std.specs.Prelude.{ℕ, Bool, true, false, List, [], ◌∷◌, if◌then◌else◌, Option, None, Some}
 use Rattle.rules.specs.Base.{Bytes, ascii, same}
 use Rattle.rules.specs.declared.Kind.{Kind}
 use Rattle.rules.specs.declared.Kind.TheVariants.{AN, ID, N0, DT}
@@ -123,9 +122,9 @@ table004010 = record {
 -- the table of an edition, which is the first six bytes of GS08
 unfoldable pub edition_table : Bytes → Option Table
 edition_table edition =
-    if same edition (ascii "006010") then some table006010
-    else (if same edition (ascii "004010") then some table004010 else none)
+    if same edition (ascii "006010") then Some table006010
+    else (if same edition (ascii "004010") then Some table004010 else None)
 
 -- the table of a set, by its edition and ST01
 unfoldable pub set_table : Bytes → Bytes → Option Table
-set_table edition st01 = if same st01 (ascii "990") then edition_table edition else none
+set_table edition st01 = if same st01 (ascii "990") then edition_table edition else None

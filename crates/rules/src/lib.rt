@@ -3,6 +3,7 @@
 ghost use Rattle.std.specs.Prelude.{◌≡◌, eqb};
 ghost use Rattle.rules.specs.Base.{any, last};
 ghost use Rattle.rules.specs.Cutting as cutting;
+ghost use Rattle.rules.specs.Refused.{number_of};
 
 // The names of segments, for what is read and for what is written.
 pub const ISA: [u8; 3] = *b"ISA";
@@ -49,24 +50,18 @@ impl Interchange {
     pub const MOST_GROUPS: u64 = 16;
 }
 
-// The repetition separator: a byte, or nothing.
-#[derive(Clone, Copy)]
-pub enum Repetition {
-    Nothing,
-    By(u8),
-}
-
 // The bytes that part segments, elements, components and repetitions.
 #[derive(Clone, Copy)]
 pub struct Delimiters {
     pub element: u8,
     pub component: u8,
     pub terminator: u8,
-    pub repetition: Repetition,
+    // The repetition separator, where there is one.
+    pub repetition: Option<u8>,
 }
 
 impl Delimiters {
-    pub fn new(element: u8, component: u8, terminator: u8, repetition: Repetition) -> Self
+    pub fn new(element: u8, component: u8, terminator: u8, repetition: Option<u8>) -> Self
         ensures { result ≡ record { element = element; component = component; terminator = terminator; repetition = repetition } }
     {
         Self {
@@ -81,11 +76,7 @@ impl Delimiters {
     pub fn separates_repetitions(self, b: u8) -> bool
         ensures { result ≡ cutting.separates_repetitions self b }
     {
-        let repetition = self.repetition;
-        match repetition {
-            Repetition::Nothing => false,
-            Repetition::By(separator) => b == separator,
-        }
+        Some(b) == self.repetition
     }
 
     // The last of them, which is the terminator where there is no fourth. So `is_mark` makes the same four comparisons in both cases, which is faster
@@ -93,11 +84,7 @@ impl Delimiters {
     fn last(self) -> u8
         ensures { result ≡ last 0 (cutting.marks self) }
     {
-        let repetition = self.repetition;
-        match repetition {
-            Repetition::Nothing => self.terminator,
-            Repetition::By(separator) => separator,
-        }
+        self.repetition.unwrap_or(self.terminator)
     }
 
     // The byte is a delimiter.
@@ -110,7 +97,7 @@ impl Delimiters {
 }
 
 // The type of an element.
-#[derive(Clone, Copy)]
+#[derive(Clone, Copy, PartialEq, Eq)]
 pub enum Kind {
     AN,
     ID,
@@ -120,7 +107,7 @@ pub enum Kind {
 }
 
 // The relation that a syntax note asks of the elements at its places: paired, required, exclusive, conditional, list conditional.
-#[derive(Clone, Copy)]
+#[derive(Clone, Copy, PartialEq, Eq)]
 pub enum Relation {
     P,
     R,
@@ -137,7 +124,8 @@ pub struct Span {
 }
 
 // What is found of one element, an AK4: its place, its reference number (0 for none), the code, and where its echo lies in the segment. The
-// echo ends where it starts if there is none.
+// echo ends where it starts if there is none. No `Option` for the two: a row writes 0, and AK4 has an empty element, for just these values. The code
+// is a number and no `ElementCode`: `new` takes any, and an enum would ask more of callers.
 #[derive(Clone, Copy)]
 pub struct Finding {
     pub place: usize,
@@ -162,92 +150,52 @@ impl Finding {
     }
 }
 
-// A code of AK4: what is wrong with an element.
-#[derive(Clone, Copy)]
-pub struct ElementCode {
-    pub number: u8,
-}
-
-impl ElementCode {
-    pub const MISSING: u8 = 1;
-
-    pub const MISSING_BY_NOTE: u8 = 2;
-
-    pub const BEYOND_TABLE: u8 = 3;
-
-    pub const TOO_SHORT: u8 = 4;
-
-    pub const TOO_LONG: u8 = 5;
-
-    pub const BAD_BYTE: u8 = 6;
-
-    pub const NOT_LISTED: u8 = 7;
-
-    pub const NO_DATE: u8 = 8;
-
-    pub const NO_TIME: u8 = 9;
-
-    pub const SHUT_OUT: u8 = 10;
-
-    pub const TOO_MANY_REPETITIONS: u8 = 12;
+// A code of AK4: what is wrong with an element. They ascend as their numbers do.
+#[derive(Clone, Copy, PartialEq, Eq, PartialOrd, Ord)]
+pub enum ElementCode {
+    Missing = 1,
+    MissingByNote = 2,
+    BeyondTable = 3,
+    TooShort = 4,
+    TooLong = 5,
+    BadByte = 6,
+    NotListed = 7,
+    NoDate = 8,
+    NoTime = 9,
+    ShutOut = 10,
+    TooManyRepetitions = 12,
 }
 
 // A code of AK3: what is wrong with a segment.
-#[derive(Clone, Copy)]
-pub struct SegmentCode {
-    pub number: u8,
-}
-
-impl SegmentCode {
-    pub const NOT_KNOWN: u8 = 1;
-
-    pub const MISSING: u8 = 3;
-
-    pub const BEYOND_MAXIMUM: u8 = 5;
-
-    pub const NOT_IN_TABLE: u8 = 6;
-
-    pub const OUT_OF_ORDER: u8 = 7;
-
-    pub const HAS_FINDINGS: u8 = 8;
+#[derive(Clone, Copy, PartialEq, Eq)]
+pub enum SegmentCode {
+    NotKnown = 1,
+    Missing = 3,
+    BeyondMaximum = 5,
+    NotInTable = 6,
+    OutOfOrder = 7,
+    HasFindings = 8,
 }
 
 // A code of AK5: what is wrong with a set.
-#[derive(Clone, Copy)]
-pub struct SetCode {
-    pub number: u8,
-}
-
-impl SetCode {
-    pub const NOT_SUPPORTED: u8 = 1;
-
-    pub const NO_TRAILER: u8 = 2;
-
-    pub const OTHER_CONTROL: u8 = 3;
-
-    pub const OTHER_COUNT: u8 = 4;
-
-    pub const HAS_NOTES: u8 = 5;
-
-    pub const REPEATED: u8 = 23;
+#[derive(Clone, Copy, PartialEq, Eq)]
+pub enum SetCode {
+    NotSupported = 1,
+    NoTrailer = 2,
+    OtherControl = 3,
+    OtherCount = 4,
+    HasNotes = 5,
+    Repeated = 23,
 }
 
 // A code of AK9: what is wrong with a group.
-#[derive(Clone, Copy)]
-pub struct GroupCode {
-    pub number: u8,
-}
-
-impl GroupCode {
-    pub const NOT_SUPPORTED: u8 = 1;
-
-    pub const NO_TABLE: u8 = 2;
-
-    pub const NO_TRAILER: u8 = 3;
-
-    pub const OTHER_CONTROL: u8 = 4;
-
-    pub const OTHER_COUNT: u8 = 5;
+#[derive(Clone, Copy, PartialEq, Eq)]
+pub enum GroupCode {
+    NotSupported = 1,
+    NoTable = 2,
+    NoTrailer = 3,
+    OtherControl = 4,
+    OtherCount = 5,
 }
 
 // The caller's numbers: the date CCYYMMDD, the time HHMM and the control number of the response.
@@ -258,10 +206,65 @@ pub struct Call {
     pub control: u32,
 }
 
-// What a caller gets: the response with its length, a refusal with its number, or the length that the buffer lacks.
-#[derive(Clone, Copy)]
-pub enum Answer {
-    Written(usize),
-    Refused(u8),
+// Why an interchange gets no response.
+#[derive(Clone, Copy, PartialEq, Eq)]
+pub enum Refusal {
+    // A number of the caller's is wrong.
+    BadCall,
+    // The interchange is too short or too long.
+    BadLength,
+    // It does not start with ISA and its separators.
+    NoIsa,
+    // Two delimiters are the same, or one is a letter, a digit or a space.
+    BadDelimiters,
+    // A field of ISA is wrong.
+    BadIsa,
+    // The last byte ends no segment.
+    NotTerminated,
+    // ISA, GS, GE and IEA do not stand in their places.
+    OutOfPlace,
+    // IEA is wrong.
+    BadTrailer,
+    // An element of GS is wrong.
+    BadHeader,
+    // A group is an acknowledgment.
+    Acknowledgment,
+    // A segment stands outside every set.
+    Outside,
+    // A group has no set.
+    NoSet,
+    // The header of a set cannot be answered.
+    BadSetHeader,
+    // The buffer is shorter than the response, which has this length.
     TooLong(usize),
+    // No TA1 is asked for.
+    NotAsked,
 }
+
+impl Refusal {
+    // Document 01's number. By a match: `TooLong` holds a length, so that no cast gives it.
+    pub fn number(self) -> u8
+        ensures { result ≡ number_of self }
+    {
+        match self {
+            Refusal::BadCall => 1,
+            Refusal::BadLength => 2,
+            Refusal::NoIsa => 3,
+            Refusal::BadDelimiters => 4,
+            Refusal::BadIsa => 5,
+            Refusal::NotTerminated => 6,
+            Refusal::OutOfPlace => 7,
+            Refusal::BadTrailer => 8,
+            Refusal::BadHeader => 9,
+            Refusal::Acknowledgment => 10,
+            Refusal::Outside => 11,
+            Refusal::NoSet => 12,
+            Refusal::BadSetHeader => 13,
+            Refusal::TooLong(_) => 14,
+            Refusal::NotAsked => 15,
+        }
+    }
+}
+
+// What a caller gets: the length of the response, or why there is none.
+pub type Answer = Result<usize, Refusal>;

@@ -1,21 +1,21 @@
 -- The fields of a segment at a cursor: what a walk that goes through the elements once needs at each turn.
 use Rattle.std.specs.Prelude.{if◌then◌else◌}
 use mathlib.Core.Path.{◌≡◌, refl, sym, ap, ◌∙◌}
-use mathlib.Core.Bool.{Bool, true, false, ◌&&◌, not, false≢true}
+use mathlib.Core.Bool.{Bool, true, false, not, false≢true}
 use mathlib.Core.List.{[], ◌∷◌}
 use Prim.Native.Nat.{ℕ, suc, ◌+◌, ◌-◌, ◌<◌, ◌≤◌}
-use native.Mathlib.Nat.{add-zero, zero-lt-suc, le_trans}
+use native.Mathlib.Nat.{add-zero, zero-lt-suc, le_trans, not-suc-le-zero}
 use native.Mathlib.Omega.{arith}
-use borrow.Author.Tests.{eq-eqb, ne_eqb, eqb-true, eqb-false, lt-ltb, le-ltb, ltb-true, ltb-false}
-use lib.Dec.{eqb, ltb}
+use borrow.Author.Tests.{ne_eqb, lt-ltb, le-ltb, ltb-true, ltb-false}
+use lib.Dec.{ltb}
 use lib.ListN.{length, get_or, take, drop, length-drop, drop_of_length-le, get_or-eq_default}
 use lib.Seq.{drop-drop, get_or-drop, take-nil}
-use Rattle.rules.specs.Base.{Bytes, same, null, push}
+use Rattle.rules.specs.Base.{Bytes, null}
 use Rattle.rules.specs.Cutting.{Segment, split, field, is_named}
 use Rattle.rules.proofs.Cuts.{split_step, split_end, split_some}
 use Rattle.text.specs.Text.{index_of}
-use Rattle.text.proofs.Loops.{left_cons}
 use Rattle.segments.proofs.Cursor.{found_free, found_cut, found_none}
+use Rattle.segments.proofs.Library.{named-is}
 
 -- 1. The field at the cursor, with the end that `find` gave, and the fields after it.
 module _ (e : ℕ) (s : Bytes) (at end : ℕ) (q : end ≡ at + index_of e (drop at s)) where
@@ -109,82 +109,12 @@ field_stay {e} {s} {n} {at} f h =
     let l = field_none f h in
     record { left = drop_of_length-le (split e s) {i = n + 1} (omega arith) ∙ sym (fields_none e s at h) }
 
--- 3. How many fields there are, byte by byte.
-module _ (e : ℕ) (s : Bytes) (i : ℕ) where
-  pub count_cut : i < length s → get_or s i 0 ≡ e → length (split e (drop i s)) ≡ suc (length (split e (drop (i + 1) s)))
-  unfolding split
-  count_cut h q = rw (left_cons s i h, eq-eqb (get_or s i 0) e q)
-
-  pub count_kept : i < length s → (get_or s i 0 ≡ e → ⊥) → length (split e (drop i s)) ≡ length (split e (drop (i + 1) s))
-  unfolding split
-  count_kept h q =
-      rw (left_cons s i h, ne_eqb (get_or s i 0) e q) (pushed (split e (drop (i + 1) s)) (split_some e (drop (i + 1) s)))
-    where
-      pushed : (ps : Segment) → null ps ≡ false → length (push (get_or s i 0) ps) ≡ length ps
-      pushed [] k = absurd (false≢true (sym k))
-      pushed (p ∷ ps) k = refl
-
-  pub count_end : length s ≤ i → length (split e (drop i s)) ≡ 1
-  unfolding split
-  count_end h = rw (drop_of_length-le s {i = i} h)
-
--- 4. The id, byte by byte, against a name.
-module _ (e : ℕ) (s : Bytes) (i : ℕ) where
-  id_cut : i < length s → get_or s i 0 ≡ e → field (split e (drop i s)) 0 ≡ []
-  unfolding split
-  id_cut h q = rw (left_cons s i h, eq-eqb (get_or s i 0) e q)
-
-  id_kept : i < length s → (get_or s i 0 ≡ e → ⊥) → field (split e (drop i s)) 0 ≡ get_or s i 0 ∷ field (split e (drop (i + 1) s)) 0
-  unfolding split
-  id_kept h q = rw (left_cons s i h, ne_eqb (get_or s i 0) e q) (pushed (split e (drop (i + 1) s)))
-    where
-      pushed : (ps : Segment) → field (push (get_or s i 0) ps) 0 ≡ get_or s i 0 ∷ field ps 0
-      pushed [] = refl
-      pushed (p ∷ ps) = refl
-
-  id_end : length s ≤ i → field (split e (drop i s)) 0 ≡ []
-  unfolding split
-  id_end h = rw (drop_of_length-le s {i = i} h)
-
-  module _ (name : Bytes) where
-    -- the name goes on
-    pub named_cut : i < length name → i < length s → get_or s i 0 ≡ e → is_named (drop i name) (split e (drop i s)) ≡ false
-    unfolding same
-    named_cut k h q = rw (left_cons name i k, id_cut h q)
-
-    pub named_short : i < length name → length s ≤ i → is_named (drop i name) (split e (drop i s)) ≡ false
-    unfolding same
-    named_short k h = rw (left_cons name i k, id_end h)
-
-    pub named_step : (q : Bool) → i < length name → i < length s → (get_or s i 0 ≡ e → ⊥) → eqb (get_or s i 0) (get_or name i 0) ≡ q
-        → is_named (drop i name) (split e (drop i s)) ≡ q && is_named (drop (i + 1) name) (split e (drop (i + 1) s))
-    unfolding same
-    named_step q k h n c = rw (left_cons name i k, id_kept h n, c)
-
-    -- the name ends
-    pub named_whole : length name ≤ i → length s ≤ i → is_named (drop i name) (split e (drop i s)) ≡ true
-    unfolding same
-    named_whole k h = rw (drop_of_length-le name {i = i} k, id_end h)
-
-    pub named_ended : length name ≤ i → i < length s → is_named (drop i name) (split e (drop i s)) ≡ eqb (get_or s i 0) e
-    unfolding same
-    named_ended k h = rw (drop_of_length-le name {i = i} k) (go (eqb (get_or s i 0) e) refl)
-      where
-        go : (c : Bool) → eqb (get_or s i 0) e ≡ c → same (field (split e (drop i s)) 0) [] ≡ c
-        go true q = rw (id_cut h (eqb-true (get_or s i 0) e q))
-        go false q = rw (id_kept h (eqb-false (get_or s i 0) e q))
-
+-- 3. The id.
 -- a segment that does not start with the name's first byte
 pub named_other : (e : ℕ) (s name : Bytes) → 0 < length name → (0 < length s → get_or s 0 0 ≡ get_or name 0 0 → ⊥) → is_named name (split e s) ≡ false
-named_other e [] name k n = named_short e [] 0 name k (omega arith)
-named_other e (b ∷ s) name k n = go (eqb b e) refl
-  where
-    h : 0 < length (b ∷ s)
-    h = zero-lt-suc (length s)
-
-    go : (c : Bool) → eqb b e ≡ c → is_named name (split e (b ∷ s)) ≡ false
-    go true q = named_cut e (b ∷ s) 0 name k h (eqb-true b e q)
-    go false q = named_step e (b ∷ s) 0 name false k h (eqb-false b e q) (ne_eqb b (get_or name 0 0) (n h))
+named_other e s [] k n = absurd (not-suc-le-zero k)
+named_other e [] (x ∷ name) k n = rw named-is
+named_other e (b ∷ s) (x ∷ name) k n = rw (named-is, ne_eqb x b (λ q. n (zero-lt-suc (length s)) (sym q)))
 
 pub present_length : (l : Bytes) → not (null l) ≡ ltb 0 (length l)
 present_length [] = refl

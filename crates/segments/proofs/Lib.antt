@@ -1,3 +1,4 @@
 pub mod Cursor
 pub mod Fields
 pub mod Pieces
+pub mod Library

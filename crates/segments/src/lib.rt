@@ -1,5 +1,6 @@
 #![tactic(auto)]
-// A segment is a part of the interchange, without its terminator. Its fields are cut at the separator e; field 0 is the id.
+// A segment is a part of the interchange, without its terminator. Its fields are cut at the separator e; field 0 is the id. The two are no
+// struct: it would be made anew of each part that a caller cuts.
 ghost use Rattle.std.specs.Prelude.{◌≡◌, length};
 ghost use Rattle.rules.specs.Cutting as cutting;
 ghost use Rattle.rules.specs.Elements.{present};
@@ -9,14 +10,12 @@ pub fn field(s: &[u8], e: u8, n: usize) -> &[u8]
     ensures { result.now ≡ cutting.field (cutting.split e s.now) n }
 {
     let mut at = 0;
-    let mut i = 0;
-    while i < n {
+    for _ in 0..n {
         let end = text::find_near(s, at, e);
         if s.len() <= end {
-            return &s[0..0];
+            return &[];
         }
         at = end + 1;
-        i += 1;
     }
     let end = text::find_near(s, at, e);
     &s[at..end]
@@ -33,44 +32,20 @@ pub fn id(s: &[u8], e: u8) -> &[u8]
 pub fn is_named(s: &[u8], e: u8, name: &[u8]) -> bool
     ensures { result ≡ cutting.is_named name.now (cutting.split e s.now) }
 {
-    let mut i = 0;
-    while i < name.len() {
-        if s.len() <= i {
-            return false;
-        }
-        // The id ends here, even where the name goes on with a separator.
-        if s[i] == e {
-            return false;
-        }
-        if s[i] != name[i] {
-            return false;
-        }
-        i += 1;
-    }
-    if s.len() <= i {
-        return true;
-    }
-    s[i] == e
+    // An id ends at the first separator, so a name that holds one names nothing.
+    s.starts_with(name) && !name.contains(&e) && s.get(name.len()).is_none_or(|&b| b == e)
 }
 
 // Field n is there and not empty.
 pub fn is_present(s: &[u8], e: u8, n: usize) -> bool
     ensures { result ≡ present (cutting.split e s.now) n }
 {
-    0 < field(s, e, n).len()
+    !field(s, e, n).is_empty()
 }
 
 // How many fields there are, the id among them.
 pub fn field_count(s: &[u8], e: u8) -> usize
     ensures { result ≡ length (cutting.split e s.now) }
 {
-    let mut n: usize = 1;
-    let mut i = 0;
-    while i < s.len() {
-        if s[i] == e {
-            n += 1;
-        }
-        i += 1;
-    }
-    n
+    s.split(|&b| b == e).count()
 }

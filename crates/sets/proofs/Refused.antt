@@ -1,27 +1,28 @@
 -- Refusals 11 to 13, set by set: what a walk over the sets knows of them so far, and what is left to decide.
-use Rattle.std.specs.Prelude.{if◌then◌else◌}
-use mathlib.Core.Path.{◌≡◌, refl, sym, ◌∙◌, subst}
-use mathlib.Core.Bool.{Bool, true, false, ◌&&◌, not}
+use Rattle.std.specs.Prelude.{if◌then◌else◌, Ok, Err}
+use mathlib.Core.Path.{◌≡◌, refl, sym, ◌∙◌}
+use mathlib.Core.Bool.{Bool, true, false, ◌&&◌, not, and_assoc}
 use mathlib.Core.List.{List, [], ◌∷◌}
 use Prim.Native.Nat.{ℕ, ◌+◌, ◌<◌, ◌≤◌}
 use native.Mathlib.Omega.{arith}
-use borrow.Author.Tests.{not-true, not-false, eqb-true, eqb-false}
+use borrow.Author.Tests.{not-true, not-false}
 use lib.Dec.{eqb}
 use lib.ListN.{length, drop}
 use Rattle.rules.specs.Base.{Bytes, ◌⇒◌, first, null, all}
 use Rattle.rules.specs.Cutting.{Segment, split}
 use Rattle.rules.specs.Sets.{Set, is_st, sets_of, outside}
 use Rattle.rules.specs.Refusals.{is_envelope, good_st, set_rules}
+use Rattle.rules.specs.Refused.{refused, unless}
 use Rattle.rules.specs.declared.Delimiters.{Delimiters}
+use Rattle.rules.specs.declared.Refusal.{Refusal}
+use Rattle.rules.specs.declared.Refusal.TheVariants.{Outside, NoSet, BadSetHeader}
+use Rattle.rules.proofs.Refused.{unless_ok, unless_err}
 use Rattle.rules.proofs.Logic.{silent}
 use Rattle.rules.proofs.SetLaws.{outer_st}
 use Rattle.text.specs.Text.{index_of, part}
-use Rattle.text.proofs.Loops.{and_assoc}
 use Rattle.envelope.specs.Places.{body_end}
 use Rattle.envelope.proofs.Places.{until_here, until_later, until_none}
 use Rattle.sets.specs.Places.{body_from, sets_checked, sets_between, ThroughSet}
-use Rattle.sets.specs.declared.SetsCheck.{SetsCheck}
-use Rattle.sets.specs.declared.SetsCheck.TheVariants.{Sound, Refused}
 use Rattle.sets.proofs.Sets.{clean_starts}
 use Rattle.sets.proofs.Walks.{body_none, body_stops, body_goes, body_null}
 
@@ -65,20 +66,17 @@ pub record Decides (d : Delimiters) (i : Bytes) (at : ℕ) (ok : Bool) (next : �
   pub ends : body_end d i at ≡ body_end d i next
   pub refusal : refusal_from d true (body_from d i at) ≡ refusal_from d ok (body_from d i next)
 
-pub decides_start : {d : Delimiters} {i : Bytes} {at : ℕ} → Decides d i at true at
-decides_start = record { ends = refl; refusal = refl }
-
 module _ {d : Delimiters} {i : Bytes} {at next : ℕ} {ok : Bool} (w : Decides d i at ok next) where
   decides_end : body_from d i next ≡ [] → body_end d i next ≡ next → sets_between at next ok ≡ sets_checked d i at
-  unfolding sets_checked
+  unfolding sets_checked unless refused
   decides_end none p =
       let n : first (set_rules d (body_from d i at)) ≡ (if eqb next at then 12 else (if ok then 0 else 13)) =
       refusal_by d (body_from d i at) ∙ rw (body_null d i at, w.refusal, none, refusal_none, w.ends ∙ p) in
       rw (n, w.ends ∙ p) (choose (eqb next at) ok)
     where
       choose : (b c : Bool)
-          → (if b then Refused 12 else (if c then Sound next else Refused 13))
-          ≡ (if eqb (if b then 12 else (if c then 0 else 13)) 0 then Sound next else Refused (if b then 12 else (if c then 0 else 13)))
+          → (if b then Err NoSet else (if c then Ok next else Err BadSetHeader))
+          ≡ unless (if b then 12 else (if c then 0 else 13)) next
       choose true c = refl
       choose false true = refl
       choose false false = refl
@@ -96,8 +94,8 @@ module _ {d : Delimiters} {i : Bytes} {at next : ℕ} {ok : Bool} (w : Decides d
     decides_enveloped g = decides_end (body_stops d i next end h q g) (until_here d.element d.terminator i next end h q g)
 
     -- the segment at the place is no header, and none of the envelope
-    pub decides_stray : is_st segment ≡ false → is_envelope segment ≡ false → Refused 11 ≡ sets_checked d i at
-    unfolding refusal_from outside sets_checked
+    pub decides_stray : is_st segment ≡ false → is_envelope segment ≡ false → Err Outside ≡ sets_checked d i at
+    unfolding refusal_from outside sets_checked unless refused
     decides_stray st outer =
         rw (refusal_stray d (body_from d i at) (w.refusal ∙ rw (body_goes d i next end h q outer, st)))
 
@@ -119,24 +117,15 @@ module _ {d : Delimiters} {i : Bytes} {at next : ℕ} {ok : Bool} (w : Decides d
         }
 
 -- what a check tells of a body: where it ends, and that it has no refusal; or its refusal
-abbrev Tells : Delimiters → Bytes → ℕ → SetsCheck → Type 0
-Tells d i at (Sound end) = (end ≡ body_end d i at) × (first (set_rules d (body_from d i at)) ≡ 0)
-Tells d i at (Refused n) = (n ≡ first (set_rules d (body_from d i at))) × (n ≡ 0 → ⊥)
-
 module _ (d : Delimiters) (i : Bytes) (at : ℕ) where
-  tells : Tells d i at (sets_checked d i at)
+  pub sets_sound : {end : ℕ} → sets_checked d i at ≡ Ok end → (end ≡ body_end d i at) × (first (set_rules d (body_from d i at)) ≡ 0)
   unfolding sets_checked
-  tells = go (eqb (first (set_rules d (body_from d i at))) 0) refl
-    where
-      go : (b : Bool) → eqb (first (set_rules d (body_from d i at))) 0 ≡ b → Tells d i at (sets_checked d i at)
-      go true p = rw p (refl, eqb-true _ _ p)
-      go false p = rw p (refl, eqb-false _ _ p)
+  sets_sound p = let told = unless_ok (first (set_rules d (body_from d i at))) (body_end d i at) p in (told.1, told.0)
 
-  pub sets_sound : {end : ℕ} → sets_checked d i at ≡ Sound end → (end ≡ body_end d i at) × (first (set_rules d (body_from d i at)) ≡ 0)
-  sets_sound p = subst (Tells d i at) p tells
-
-  pub sets_refused : {n : ℕ} → sets_checked d i at ≡ Refused n → (n ≡ first (set_rules d (body_from d i at))) × (n ≡ 0 → ⊥)
-  sets_refused p = subst (Tells d i at) p tells
+  pub sets_refused : {e : Refusal} → sets_checked d i at ≡ Err e
+      → (e ≡ refused (first (set_rules d (body_from d i at)))) × (first (set_rules d (body_from d i at)) ≡ 0 → ⊥)
+  unfolding sets_checked
+  sets_refused p = unless_err (first (set_rules d (body_from d i at))) (body_end d i at) p
 
 -- what holds of a group that is not refused
 pub record Passed (d : Delimiters) (ss : List Segment) : Type 0 where

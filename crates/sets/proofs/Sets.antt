@@ -1,15 +1,14 @@
 -- The set at a place of a group's bytes: it is the first of those left there, and the others are those left at its end.
-use Rattle.std.specs.Prelude.{if◌then◌else◌}
+use Rattle.std.specs.Prelude.{if◌then◌else◌, option_to_list, is_none, Option, None, Some}
 use mathlib.Core.Path.{◌≡◌, refl, sym, ap, ◌∙◌, subst⁻¹}
 use mathlib.Core.Bool.{Bool, true, false, not}
 use mathlib.Core.List.{List, ◌∷◌, ◌++◌, append-nil, append_assoc}
-use mathlib.Core.Option.{Option, none, some}
 use Prim.Native.Nat.{ℕ, zero, suc, ◌+◌, ◌-◌, ◌<◌, ◌≤◌}
 use native.Mathlib.Omega.{arith}
 use borrow.Author.Tests.{ltb-true, ltb-false, not-false}
 use lib.Dec.{ltb}
 use lib.ListN.{length, take, drop}
-use Rattle.rules.specs.Base.{Bytes, is_none, listed}
+use Rattle.rules.specs.Base.{Bytes}
 use Rattle.rules.specs.Cutting.{Segment, split, pieces, segments}
 use Rattle.rules.specs.Sets.{Set, is_st, is_se, body_of, trailer_of, sets_of, outside, inside, segments_of, control_of}
 use Rattle.rules.specs.declared.Delimiters.{Delimiters}
@@ -24,9 +23,9 @@ use Rattle.sets.proofs.Turns.{set_opens, set_goes, set_ends, control_is}
 -- the trailer that a place names
 abbrev pub trailer_in : Delimiters → Bytes → SetAt → Option Segment
 trailer_in d body r =
-    if r.closed then some (split d.element (take (r.end - 1 - r.trailer) (drop r.trailer body))) else none
+    if r.closed then Some (split d.element (take (r.end - 1 - r.trailer) (drop r.trailer body))) else None
 
-closes : (b : Bool) (s : Segment) → is_none (if b then some s else none) ≡ not b
+closes : (b : Bool) (s : Segment) → is_none (if b then Some s else None) ≡ not b
 closes true s = refl
 closes false s = refl
 
@@ -35,12 +34,12 @@ record Follows (d : Delimiters) (body : Bytes) (start header n at : ℕ) (r : Se
   others : sets_of (segments d (drop at body)) ≡ sets_of (segments d (drop r.end body))
   whole : segments d (take (r.end - start) (drop start body))
       ≡ segments d (take (at - start) (drop start body))
-      ++ (body_of (segments d (drop at body)) ++ listed (trailer_of (segments d (drop at body))))
+      ++ (body_of (segments d (drop at body)) ++ option_to_list (trailer_of (segments d (drop at body))))
   trailer : trailer_of (segments d (drop at body)) ≡ trailer_in d body r
   strays : inside (segments d (drop at body)) ≡ outside (segments d (drop r.end body))
   starts : r.start ≡ start
   headed : r.header ≡ header
-  counted : r.segments ≡ n + length (body_of (segments d (drop at body)) ++ listed (trailer_of (segments d (drop at body))))
+  counted : r.segments ≡ n + length (body_of (segments d (drop at body)) ++ option_to_list (trailer_of (segments d (drop at body))))
   onward : at ≤ r.end
 
 module _ (d : Delimiters) (body : Bytes) (start header : ℕ) where
@@ -181,7 +180,7 @@ module _ (d : Delimiters) (body : Bytes) (at : ℕ) (r : SetAt) (h : at < length
   pub set_whole : {end : ℕ} → end ≡ at + index_of d.terminator (drop at body)
       → segments d (take (r.end - at) (drop at body))
       ≡ split d.element (take (end - at) (drop at body))
-      ∷ (body_of (segments d (drop (end + 1) body)) ++ listed (trailer_of (segments d (drop (end + 1) body))))
+      ∷ (body_of (segments d (drop (end + 1) body)) ++ option_to_list (trailer_of (segments d (drop (end + 1) body))))
   set_whole e = rw e (opened.whole ∙ rw (segments_new d body at _ h refl))
 
   set_is : is_st (split d.element (take (r.header - at) (drop at body))) ≡ true → SetIs d body at r

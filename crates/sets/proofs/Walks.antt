@@ -84,10 +84,6 @@ module _ (d : Delimiters) (i : Bytes) (at : ℕ) where
           rw (body_none past) (sym (eq-eqb (body_end d i at) at (until_none d.element d.terminator i at past)))
 
 -- 3. The way through an open set.
--- no step
-pub through_here : {d : Delimiters} {i : Bytes} {at : ℕ} → ThroughSet d i at true at
-through_here = record { onward = omega arith; ends = refl; sets = refl; strays = refl }
-
 module _ {d : Delimiters} {i : Bytes} {from at : ℕ} (w : ThroughSet d i from true at) where
   through_stops : body_from d i at ≡ [] → ThroughSet d i from false at
   unfolding outside

@@ -1,18 +1,19 @@
 -- Where the sets of a group stand in its bytes: the header, the trailer and the end of the set that starts at a place, and its ST02; and what
 -- refusals 11 to 13 make of the sets from a place on.
-use Rattle.std.specs.Prelude.{ℕ, ◌+◌, ◌≤◌, ◌≡◌, Bool, true, false, List, [], ◌∷◌, map, eqb, length, drop, get_or, if◌then◌else◌}
+use Rattle.std.specs.Prelude.{ℕ, ◌+◌, ◌≤◌, ◌≡◌, Bool, true, false, List, [], ◌∷◌, map, eqb, length, drop, get_or, if◌then◌else◌, Result, Ok, Err}
 use Rattle.rules.specs.Base.{Bytes, first}
 use Rattle.rules.specs.Cutting.{Segment, field, split, pieces, segments}
 use Rattle.rules.specs.Sets.{is_st, is_se, sets_of, outside, inside}
 use Rattle.rules.specs.Refusals.{set_rules}
+use Rattle.rules.specs.Refused.{unless}
 use Rattle.rules.specs.declared.Delimiters.{Delimiters}
+use Rattle.rules.specs.declared.Refusal.{Refusal}
+use Rattle.rules.specs.declared.Refusal.TheVariants.{NoSet, BadSetHeader}
 use Rattle.text.specs.Text.{part}
 use Rattle.envelope.specs.Places.{body_end}
 use Rattle.sets.specs.declared.Role.{Role}
 use Rattle.sets.specs.declared.Role.TheVariants.{Header, Trailer, Other}
 use Rattle.sets.specs.declared.SetAt.{SetAt}
-use Rattle.sets.specs.declared.SetsCheck.{SetsCheck}
-use Rattle.sets.specs.declared.SetsCheck.TheVariants.{Sound, Refused}
 
 -- a set of n segments with its SE, and one without
 abbrev pub closed_at : ℕ → ℕ → ℕ → ℕ → ℕ → SetAt
@@ -54,14 +55,12 @@ abbrev pub body_from : Delimiters → Bytes → ℕ → List Segment
 body_from d i at = segments d (part i at (body_end d i at))
 
 -- the refusal of the body that starts at a place, by 11 to 13, or where the body ends
-unfoldable pub sets_checked : Delimiters → Bytes → ℕ → SetsCheck
-sets_checked d i at =
-    let n = first (set_rules d (body_from d i at)) in
-    if eqb n 0 then Sound (body_end d i at) else Refused n
+unfoldable pub sets_checked : Delimiters → Bytes → ℕ → Result ℕ Refusal
+sets_checked d i at = unless (first (set_rules d (body_from d i at))) (body_end d i at)
 
 -- the same for a body from one place to another, where no segment is outside every set; good where every header can be answered
-abbrev pub sets_between : ℕ → ℕ → Bool → SetsCheck
-sets_between at end good = if eqb end at then Refused 12 else (if good then Sound end else Refused 13)
+abbrev pub sets_between : ℕ → ℕ → Bool → Result ℕ Refusal
+sets_between at end good = if eqb end at then Err NoSet else (if good then Ok end else Err BadSetHeader)
 
 -- one of the segments is outside every set, where at the first of them a set is open, or none is
 abbrev pub strayed : Bool → List Segment → Bool

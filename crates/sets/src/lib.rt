@@ -7,7 +7,7 @@ ghost use Rattle.rules.specs.Sets.{is_st};
 ghost use Rattle.rules.specs.Refusals.{good_st};
 ghost use Rattle.sets.specs.Places.{closed_at, unclosed_at, role_of, set_at, ThroughSet, sets_between, sets_checked};
 
-use rules::Delimiters;
+use rules::{Delimiters, GS, ISA, Refusal, SE, ST};
 
 // The place of a set.
 #[derive(Clone, Copy)]
@@ -20,7 +20,7 @@ pub struct SetAt {
     pub trailer: usize,
     // Where the next set starts.
     pub end: usize,
-    // There is a trailer.
+    // There is a trailer. `trailer` is no `Option` in its place: of a set that is known to be closed it is read without asking.
     pub closed: bool,
     // How many segments there are, from header to trailer.
     pub segments: usize,
@@ -60,13 +60,6 @@ impl SetAt {
     }
 }
 
-// What the sets of a group come to: where its body ends, or the number of the refusal.
-#[derive(Clone, Copy)]
-pub enum SetsCheck {
-    Sound(usize),
-    Refused(u8),
-}
-
 // What a segment is to the sets: ST opens one, SE closes it.
 #[derive(Clone, Copy)]
 enum Role {
@@ -78,20 +71,17 @@ enum Role {
 fn role_of(segment: &[u8], e: u8) -> Role
     ensures { result ≡ role_of (cutting.split e segment.now) }
 {
-    if segment.len() == 0 {
-        return Role::Other;
-    }
     // Most segments are told apart by their first byte; ST and SE share it.
-    if segment[0] != rules::SE[0] {
+    if segment.first() != Some(&SE[0]) {
         return Role::Other;
     }
-    if segments::is_named(segment, e, &rules::SE) {
-        return Role::Trailer;
+    if segments::is_named(segment, e, &SE) {
+        Role::Trailer
+    } else if segments::is_named(segment, e, &ST) {
+        Role::Header
+    } else {
+        Role::Other
     }
-    if segments::is_named(segment, e, &rules::ST) {
-        return Role::Header;
-    }
-    Role::Other
 }
 
 // The set whose header starts at `at`: it goes to its SE, or up to the next ST or the group's end.
@@ -102,18 +92,16 @@ pub fn next_set(body: &[u8], d: Delimiters, at: usize) -> SetAt
         return SetAt::without_trailer(at, at, 0, at);
     }
     let header = text::find(body, at, d.terminator);
-    let mut segments: usize = 1;
+    let mut segments = 1;
+    // A cursor: where the next segment starts is known when this one is read, and so it is in the walks below.
     let mut next = header + 1;
     while next < body.len() {
         let end = text::find(body, next, d.terminator);
-        let segment = &body[next..end];
-        match role_of(segment, d.element) {
+        match role_of(&body[next..end], d.element) {
             Role::Trailer => {
                 return SetAt::with_trailer(at, header, segments + 1, next, end + 1);
             }
-            Role::Header => {
-                return SetAt::without_trailer(at, header, segments, next);
-            }
+            Role::Header => break,
             Role::Other => {}
         }
         segments += 1;
@@ -127,10 +115,7 @@ fn is_good_header(header: &[u8], d: Delimiters) -> bool
     requires { is_st (cutting.split d.element header.now) ≡ true }
     ensures { result ≡ good_st d (cutting.split d.element header.now) }
 {
-    if header.len() < 11 {
-        return false;
-    }
-    if text::find_near(header, 3, d.element) != 6 {
+    if header.len() < 11 || text::find_near(header, 3, d.element) != 6 {
         return false;
     }
     let end = text::find_near(header, 7, d.element);
@@ -146,19 +131,16 @@ fn end_of_set(i: &[u8], d: Delimiters, at: usize) -> usize
         let end = text::find(i, next, d.terminator);
         // Most segments are told apart by their first byte, or an empty one by its terminator.
         let first = i[next];
-        if (first != rules::SE[0]) & (first != rules::ISA[0]) & (first != rules::GS[0]) {
-            next = end + 1;
-            continue;
-        }
-        let segment = &i[next..end];
-        if segments::is_named(segment, d.element, &rules::SE) {
-            return end + 1;
-        }
-        if segments::is_named(segment, d.element, &rules::ST) {
-            return next;
-        }
-        if envelope::is_of_envelope(segment, d.element) {
-            return next;
+        if first == SE[0] || first == ISA[0] || first == GS[0] {
+            let segment = &i[next..end];
+            if segments::is_named(segment, d.element, &SE) {
+                return end + 1;
+            }
+            if segments::is_named(segment, d.element, &ST)
+                || envelope::is_of_envelope(segment, d.element)
+            {
+                return next;
+            }
         }
         next = end + 1;
     }
@@ -166,21 +148,21 @@ fn end_of_set(i: &[u8], d: Delimiters, at: usize) -> usize
 }
 
 // What the sets from `at` to `end` come to, where no segment is outside every set; `good` tells that every header can be answered.
-fn sets_between(at: usize, end: usize, good: bool) -> SetsCheck
+fn sets_between(at: usize, end: usize, good: bool) -> Result<usize, Refusal>
     ensures { result ≡ sets_between at end good }
 {
     if end == at {
-        return SetsCheck::Refused(12);
+        return Err(Refusal::NoSet);
     }
     if !good {
-        return SetsCheck::Refused(13);
+        return Err(Refusal::BadSetHeader);
     }
-    SetsCheck::Sound(end)
+    Ok(end)
 }
 
 // Refusals 11 to 13 of the sets from `at` on, up to the first segment of the envelope: a segment outside every set, no set, a header
 // that cannot be answered.
-pub fn check_sets(i: &[u8], d: Delimiters, at: usize) -> SetsCheck
+pub fn check_sets(i: &[u8], d: Delimiters, at: usize) -> Result<usize, Refusal>
     ensures { result ≡ sets_checked d i.now at }
 {
     // Every header so far can be answered, and no set is open at `next`.
@@ -189,13 +171,13 @@ pub fn check_sets(i: &[u8], d: Delimiters, at: usize) -> SetsCheck
     while next < i.len() {
         let end = text::find(i, next, d.terminator);
         let segment = &i[next..end];
-        if !segments::is_named(segment, d.element, &rules::ST) {
+        if !segments::is_named(segment, d.element, &ST) {
             if envelope::is_of_envelope(segment, d.element) {
-                return sets_between(at, next, good);
+                break;
             }
-            return SetsCheck::Refused(11);
+            return Err(Refusal::Outside);
         }
-        good = good & is_good_header(segment, d);
+        good &= is_good_header(segment, d);
         next = end_of_set(i, d, end + 1);
     }
     sets_between(at, next, good)

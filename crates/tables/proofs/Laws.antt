@@ -144,7 +144,7 @@ byte_at [] (suc i) e = lit< tt
 byte_at (x ∷ xs) zero e = ltb-true x 256 (and_left (is_byte x) (all is_byte xs) e)
 byte_at (x ∷ xs) (suc i) e = byte_at xs i (and_right (is_byte x) (all is_byte xs) e)
 
-pub three : (xs : List ℕ) → filled (get_or xs 0 0 ∷ get_or xs 1 0 ∷ get_or xs 2 0 ∷ []) ≡ filled (take 3 xs)
+three : (xs : List ℕ) → filled (get_or xs 0 0 ∷ get_or xs 1 0 ∷ get_or xs 2 0 ∷ []) ≡ filled (take 3 xs)
 unfolding filled
 three [] = refl
 three (a ∷ []) = refl

@@ -8,7 +8,6 @@ use native.Mathlib.Numerals.{add-one}
 use borrow.Author.Tests.{eq-eqb, ne_eqb, eqb-true, eqb-false}
 use lib.Dec.{eqb}
 use lib.ListN.{length, get_or, take, drop, drop_of_length-le}
-use lib.Seq.{drop-cons}
 use Rattle.rules.specs.Base.{Bytes, same, any, member}
 use Rattle.tables.specs.Rows.{filled, ids_in}
 use Rattle.text.specs.Text.{index_of, index_where}
@@ -30,7 +29,7 @@ filled_here (x ∷ xs) (suc i) e = rw add-one (rw add-one at (filled_here xs i e
 
 -- the numbers of xs against bytes, at i
 module _ (xs : List ℕ) (bytes : Bytes) (i : ℕ) where
-  pub spell_short : i < length bytes → get_or xs i 0 ≡ 0 → same (filled (drop i xs)) (drop i bytes) ≡ false
+  spell_short : i < length bytes → get_or xs i 0 ≡ 0 → same (filled (drop i xs)) (drop i bytes) ≡ false
   unfolding same
   spell_short h e = rw (filled_end xs i e, left_cons bytes i h)
 
@@ -38,6 +37,14 @@ module _ (xs : List ℕ) (bytes : Bytes) (i : ℕ) where
       → same (filled (drop i xs)) (drop i bytes) ≡ q && same (filled (drop (i + 1) xs)) (drop (i + 1) bytes)
   unfolding same
   spell_step q h n e = rw (filled_here xs i n, left_cons bytes i h, e)
+
+  -- the numbers end there, or differ from the bytes
+  pub spell_apart : i < length bytes → (get_or xs i 0 ≡ get_or bytes i 0 → get_or xs i 0 ≡ 0) → same (filled (drop i xs)) (drop i bytes) ≡ false
+  spell_apart h f = go (eqb (get_or xs i 0) 0) refl
+    where
+      go : (q : Bool) → eqb (get_or xs i 0) 0 ≡ q → same (filled (drop i xs)) (drop i bytes) ≡ false
+      go true e = spell_short h (eqb-true _ _ e)
+      go false e = let n = eqb-false _ _ e in spell_step false h n (ne_eqb _ _ (λ q. n (f q)))
 
   pub spell_done : length bytes ≤ i → get_or xs i 0 ≡ 0 → same (filled (drop i xs)) (drop i bytes) ≡ true
   unfolding same
@@ -66,16 +73,11 @@ filled_take (x ∷ xs) = go (eqb x 0) (filled_take xs)
     go true h = refl
     go false h = ap (λ (l : List ℕ). x ∷ l) h
 
--- a list of ids, each its numbers before the first 0: the id at k is the one as q says, and the rest decides
-module _ (id : Bytes) (rows : List (List ℕ)) (k : ℕ) where
-  pub known_step : (q : Bool) → k < length rows → same id (filled (get_or rows k [])) ≡ q
-      → member id (ids_in (drop k rows)) ≡ q || member id (ids_in (drop (k + 1) rows))
-  unfolding any ids_in
-  known_step q h e = rw (add-one, drop-cons rows k [] h, e)
-
-  pub known_end : length rows ≤ k → member id (ids_in (drop k rows)) ≡ false
-  unfolding any ids_in
-  known_end h = rw (drop_of_length-le rows {i = k} h)
+-- an id is one of a list of them, each its numbers before the first 0
+pub known_any : (id : Bytes) (rows : List (List ℕ)) → member id (ids_in rows) ≡ any (λ row. same id (filled row)) rows
+unfolding any ids_in
+known_any id [] = refl
+known_any id (r ∷ rows) = ap (λ b. same id (filled r) || b) (known_any id rows)
 
 eqb_swap : (x y : ℕ) → eqb x y ≡ eqb y x
 eqb_swap x y = go (eqb x y) refl

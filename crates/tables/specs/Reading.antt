@@ -1,5 +1,5 @@
 -- Reading a guide, a table as rows of six numbers, at a cursor: k is the index of a row.
-use Rattle.std.specs.Prelude.{ℕ, ◌+◌, ◌%◌, ◌≤◌, ◌≡◌, Bool, true, ◌&&◌, ◌||◌, not, List, [], ◌∷◌, eqb, ltb, leb, length, get_or, take, drop, if◌then◌else◌}
+use Rattle.std.specs.Prelude.{ℕ, ◌+◌, ◌%◌, ◌≤◌, ◌≡◌, Bool, true, ◌&&◌, ◌||◌, not, List, [], ◌∷◌, eqb, ltb, leb, length, get_or, take, drop, if◌then◌else◌, Option, None, Some}
 use Rattle.rules.specs.Base.{Bytes, same, null, all, any, between, member}
 use Rattle.rules.specs.Tables.{Row, Syntax, Entry}
 use Rattle.tables.specs.Rows.{column, is_row, filled, codes_in, row_is, note_is, rows_in, syntax_in, entry_is, ids_in}
@@ -7,8 +7,6 @@ use Rattle.text.specs.Text.{next_where, index_of}
 use Rattle.tables.specs.declared.SegmentId.{SegmentId}
 use Rattle.tables.specs.declared.ElementRow.{ElementRow}
 use Rattle.tables.specs.declared.Places.{Places}
-use Rattle.tables.specs.declared.Due.{Due}
-use Rattle.tables.specs.declared.Due.TheVariants as due
 
 -- a table as rows of numbers
 abbrev pub Guide : Type 0
@@ -76,10 +74,10 @@ unfoldable pub next_mandatory : Guide → ℕ → ℕ → ℕ
 next_mandatory rows k end = next_where is_mandatory_row (take end rows) k
 
 -- the next segment row with this id from k on, where no mandatory one stands before it
-unfoldable pub next_due : Guide → ℕ → Bytes → Due
+unfoldable pub next_due : Guide → ℕ → Bytes → Option ℕ
 next_due rows k id =
     let row = next_where (λ r. is_entry_row id r || is_mandatory_row r) rows k in
-    if is_entry_row id (get_or rows row []) then due.Row row else due.Nothing
+    if is_entry_row id (get_or rows row []) then Some row else None
 
 -- the id of row k by value, of a number above 255 its low byte, and the bytes that such an id stands for
 unfoldable pub id_at : Guide → ℕ → SegmentId

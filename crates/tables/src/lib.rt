@@ -8,6 +8,9 @@ ghost use Rattle.tables.specs.Reading.{entry_at, row_at, note_at, codes_at, id_i
 
 use rules::{Kind, Relation};
 
+// What the numbers of a row mean. They are no enums: `put_notes` and every reader here take any rows of six numbers, so that a narrower type would ask
+// more, and a table is a constant array of them.
+
 // What a row is.
 pub const SEGMENT: u16 = 1;
 
@@ -63,7 +66,7 @@ const LONGEST: usize = 5;
 // The columns of a note's row: its relation, and from the second on its places.
 const RELATION: usize = 1;
 
-// The id of a segment by value: two or three bytes, the third 0 where there are two.
+// The id of a segment by value: two or three bytes, the third 0 where there are two. Three fields and no array: `id_bytes` and the laws on it name them.
 #[derive(Clone, Copy)]
 pub struct SegmentId {
     pub first: u8,
@@ -81,46 +84,32 @@ pub struct ElementRow {
     pub longest: usize,
 }
 
-// The places that a note names, in their order: as many of the numbers as the count says.
+// The places that a note names, in their order: as many of the numbers as the count says. No heap, so they stand in an array with the count beside.
 #[derive(Clone, Copy)]
 pub struct Places {
     pub numbers: [usize; 4],
     pub count: usize,
 }
 
-fn wide(n: u16) -> usize
-    ensures { result ≡ n }
-{
-    n as usize
-}
-
 // The number at i, 0 past the end.
 fn number_at(numbers: &[u16], i: usize) -> u16
     ensures { result ≡ get_or numbers.now i 0 }
 {
-    if i < numbers.len() {
-        return numbers[i];
-    }
-    0
+    numbers.get(i).copied().unwrap_or(0)
 }
 
 // The numbers before the first 0 are these bytes.
 fn spells(numbers: &[u16], bytes: &[u8]) -> bool
     ensures { result ≡ same (filled numbers.now) bytes.now }
 {
-    let mut i = 0;
-    while i < bytes.len() {
+    for (i, &byte) in bytes.iter().enumerate() {
         let number = number_at(numbers, i);
-        // The numbers end here, even where the byte is a 0 too.
-        if number == 0 {
+        // The numbers end at a 0, even where the byte is a 0 too.
+        if number == 0 || number != u16::from(byte) {
             return false;
         }
-        if number != bytes[i] as u16 {
-            return false;
-        }
-        i += 1;
     }
-    number_at(numbers, i) == 0
+    number_at(numbers, bytes.len()) == 0
 }
 
 fn is_id(row: [u16; 6], id: &[u8]) -> bool
@@ -138,44 +127,26 @@ fn is_code(row: [u16; 6], value: &[u8]) -> bool
 fn is_entry_row(row: [u16; 6], id: &[u8]) -> bool
     ensures { result ≡ is_entry_row id.now row }
 {
-    if row[0] != SEGMENT {
-        return false;
-    }
-    is_id(row, id)
+    row[0] == SEGMENT && is_id(row, id)
 }
 
 fn is_mandatory_row(row: [u16; 6]) -> bool
     ensures { result ≡ is_mandatory_row row }
 {
-    if row[0] != SEGMENT {
-        return false;
-    }
-    row[NEED] == M
-}
-
-fn column_of(row: [u16; 6], column: usize) -> u16
-    ensures { result ≡ get_or row column 0 }
-{
-    if column < 6 {
-        return row[column];
-    }
-    0
+    row[0] == SEGMENT && row[NEED] == M
 }
 
 // A number of row k, 0 past the end.
 fn number(guide: &[[u16; 6]], k: usize, column: usize) -> u16
     ensures { result ≡ get_or (get_or guide.now k []) column 0 }
 {
-    if k < guide.len() {
-        return column_of(guide[k], column);
-    }
-    0
+    guide.get(k).map_or(0, |row| number_at(row, column))
 }
 
 fn wide_number(guide: &[[u16; 6]], k: usize, column: usize) -> usize
     ensures { result ≡ get_or (get_or guide.now k []) column 0 }
 {
-    wide(number(guide, k, column))
+    usize::from(number(guide, k, column))
 }
 
 fn is_row(guide: &[[u16; 6]], what: u16, k: usize) -> bool
@@ -212,6 +183,7 @@ pub fn is_note(guide: &[[u16; 6]], k: usize) -> bool
     is_row(guide, NOTE, k)
 }
 
+// By a match and not by `From`: the number and the enum are both types of other crates, for which no `impl` may stand here.
 fn kind_of(n: u16) -> Kind
     ensures { result ≡ kind_of n }
 {
@@ -224,6 +196,7 @@ fn kind_of(n: u16) -> Kind
     }
 }
 
+// By a match, as `kind_of`.
 fn relation_of(n: u16) -> Relation
     ensures { result ≡ relation_of n }
 {
@@ -236,14 +209,12 @@ fn relation_of(n: u16) -> Relation
     }
 }
 
-// The row below row k; past the end there is none, whatever the number.
+// The row below row k; past the end there is none, whatever the number. A row is named by the guide and its number, here and below, and by no struct of
+// the two: what is behind it belongs to it, and the walks go on by its number.
 pub fn below(guide: &[[u16; 6]], k: usize) -> usize
     ensures { result ≡ row_below guide.now k }
 {
-    if k < guide.len() {
-        return k + 1;
-    }
-    k
+    if k < guide.len() { k + 1 } else { k }
 }
 
 // How often the segment of row k may be used.
@@ -277,14 +248,10 @@ pub fn relation_at(guide: &[[u16; 6]], k: usize) -> Relation
 fn named(numbers: &[usize]) -> usize
     ensures { result ≡ index_of 0 numbers.now }
 {
-    let mut i = 0;
-    while i < numbers.len() {
-        if numbers[i] == 0 {
-            return i;
-        }
-        i += 1;
-    }
-    i
+    numbers
+        .iter()
+        .position(|&n| n == 0)
+        .unwrap_or(numbers.len())
 }
 
 // The places of the note in row k.
@@ -301,41 +268,28 @@ pub fn places_at(guide: &[[u16; 6]], k: usize) -> Places
     Places { numbers, count }
 }
 
-// The row of the first segment with this id; the number of rows where there is none.
+// The row of the first segment with this id; the number of rows where there is none. No `Option`: the contract, which other tables are read by too,
+// promises that number, here and in `next_mandatory`.
 pub fn reach(guide: &[[u16; 6]], id: &[u8]) -> usize
     ensures { result ≡ entry_row guide.now id.now }
 {
-    let mut k = 0;
-    while k < guide.len() {
-        if is_entry_row(guide[k], id) {
-            return k;
-        }
-        k += 1;
-    }
-    k
-}
-
-fn mandatory_from(guide: &[[u16; 6]], from: usize) -> usize
-    ensures { result ≡ next_where is_mandatory_row guide.now from }
-{
-    let mut k = from;
-    while k < guide.len() {
-        if is_mandatory_row(guide[k]) {
-            return k;
-        }
-        k += 1;
-    }
-    k
+    guide
+        .iter()
+        .position(|&row| is_entry_row(row, id))
+        .unwrap_or(guide.len())
 }
 
 // The first mandatory segment from row `from` on and before row `end`; `end` or the number of rows where there is none.
 pub fn next_mandatory(guide: &[[u16; 6]], from: usize, end: usize) -> usize
     ensures { result ≡ next_mandatory guide.now from end }
 {
-    if end < guide.len() {
-        return mandatory_from(&guide[..end], from);
+    let end = end.min(guide.len());
+    for k in from..end {
+        if is_mandatory_row(guide[k]) {
+            return k;
+        }
     }
-    mandatory_from(guide, from)
+    from.max(end)
 }
 
 // The element of row k has code values.
@@ -349,12 +303,13 @@ pub fn has_values(guide: &[[u16; 6]], k: usize) -> bool
 fn is_listed_from(guide: &[[u16; 6]], from: usize, value: &[u8]) -> bool
     ensures { result ≡ member value.now (codes_at guide.now from) }
 {
-    let mut k = from;
-    while is_value(guide, k) {
+    for k in from..guide.len() {
+        if !is_value(guide, k) {
+            return false;
+        }
         if is_code(guide[k], value) {
             return true;
         }
-        k += 1;
     }
     false
 }
@@ -366,6 +321,7 @@ pub fn is_listed(guide: &[[u16; 6]], k: usize, value: &[u8]) -> bool
     is_listed_from(guide, below(guide, k), value)
 }
 
+// By a remainder and not by `From`: what is above a byte is dropped.
 fn low_byte(n: u16) -> u8
     ensures { result ≡ n % 256 }
 {
@@ -386,54 +342,34 @@ pub fn id_at(guide: &[[u16; 6]], k: usize) -> SegmentId
 fn is_named(row: [u8; 3], id: &[u8]) -> bool
     ensures { result ≡ same id.now (filled row) }
 {
-    let numbers = [row[0] as u16, row[1] as u16, row[2] as u16];
-    spells(&numbers, id)
+    spells(&row.map(u16::from), id)
 }
 
 // The id is one of the directory.
 pub fn is_known(id: &[u8], directory: &[[u8; 3]]) -> bool
     ensures { result ≡ member id.now (ids_in directory.now) }
 {
-    let mut k = 0;
-    while k < directory.len() {
-        if is_named(directory[k], id) {
-            return true;
-        }
-        k += 1;
-    }
-    false
+    directory.iter().any(|&row| is_named(row, id))
 }
 
 // Row k is the segment with this id.
 pub fn is_entry(guide: &[[u16; 6]], k: usize, id: &[u8]) -> bool
     ensures { result ≡ is_entry_row id.now (get_or guide.now k []) }
 {
-    if k < guide.len() {
-        return is_entry_row(guide[k], id);
-    }
-    false
+    guide.get(k).is_some_and(|&row| is_entry_row(row, id))
 }
 
-// The segment that is due, by its row.
-#[derive(Clone, Copy)]
-pub enum Due {
-    Row(usize),
-    Nothing,
-}
-
-// The next segment with this id from row `from` on, where no mandatory one stands before it.
-pub fn next_due(guide: &[[u16; 6]], from: usize, id: &[u8]) -> Due
+// The row of the next segment with this id from row `from` on, where no mandatory one stands before it.
+pub fn next_due(guide: &[[u16; 6]], from: usize, id: &[u8]) -> Option<usize>
     ensures { result ≡ next_due guide.now from id.now }
 {
-    let mut k = from;
-    while k < guide.len() {
+    for k in from..guide.len() {
         if is_entry_row(guide[k], id) {
-            return Due::Row(k);
+            return Some(k);
         }
         if is_mandatory_row(guide[k]) {
-            return Due::Nothing;
+            return None;
         }
-        k += 1;
     }
-    Due::Nothing
+    None
 }

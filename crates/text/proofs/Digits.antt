@@ -1,10 +1,9 @@
 -- Digits and the number that they stand for.
-use Rattle.std.specs.Prelude.{if◌then◌else◌}
-use Prim.Native.Nat.{ℕ, suc, ◌+◌, ◌-◌, ◌*◌, ◌^◌, ◌<◌, ◌≤◌, min}
-use mathlib.Core.Path.{◌≡◌, refl}
+use Rattle.std.specs.Prelude.{if◌then◌else◌, unwrap_or, None, Some}
+use Prim.Native.Nat.{ℕ, suc, ◌+◌, ◌-◌, ◌*◌, ◌^◌, ◌<◌, ◌≤◌}
+use mathlib.Core.Path.{◌≡◌, refl, ◌∙◌}
 use mathlib.Core.Bool.{Bool, true, false, ◌&&◌}
 use mathlib.Core.List.{[], ◌∷◌}
-use mathlib.Core.Option.{none, some}
 use native.Mathlib.Nat.{add-zero, pow-suc, pow-le-pow_right, lt_of_lt_of_le}
 use native.Mathlib.Numerals.{add-one}
 use native.Mathlib.Omega.{arith}
@@ -13,10 +12,9 @@ use lib.Dec.{leb, lit<}
 use lib.ListN.{length, get_or, drop, drop_of_length-le}
 use Rattle.rules.specs.Base.{Bytes, between, is_digit, all}
 use Rattle.rules.specs.Numbers.{digits, value_from, value, count_in}
-use Rattle.rules.specs.Groups.{or_else}
 use Rattle.rules.proofs.Logic.{and_left, and_right, all_head, all_tail}
 use Rattle.text.specs.Text.{up_to_ten}
-use Rattle.text.proofs.Loops.{left_cons}
+use Rattle.text.proofs.Loops.{left_cons, all_step, all_end}
 
 pub between_true : (lo hi n : ℕ) → between lo hi n ≡ true → (lo ≤ n) × (n ≤ hi)
 between_true lo hi n e =
@@ -73,27 +71,46 @@ value_below lo hi s e =
     (below_from 0 0 s (lit< tt) (digits_all lo hi s e))
     (pow-le-pow_right {n = 10} (lit< tt) {i = 0 + length s} {j = hi} (omega arith))
 
--- the count that is told, by the two tests of it
-pub count_few : (hi most : ℕ) (s : Bytes) → between 1 hi (length s) ≡ true → hi ≡ min most 10 → length s ≤ 10
-count_few hi most s e h = let b = between_true 1 hi (length s) e in omega arith
+-- The first i of at most ten bytes are digits and stand for n; the rest decides.
+pub record ReadTo (s : Bytes) (i n : ℕ) : Type 0 where
+  pub few : length s ≤ 10
+  pub below : n < 10 ^ i
+  pub digits : all is_digit s ≡ all is_digit (drop i s)
+  pub rest : value s ≡ value_from n (drop i s)
 
-pub count_long : (hi : ℕ) (s : Bytes) → between 1 hi (length s) ≡ false → count_in hi s ≡ none
-unfolding count_in digits
-count_long hi s h = rw h
+pub read_none : (s : Bytes) → length s ≤ 10 → ReadTo s 0 0
+unfolding value
+read_none s h = record { few = h; below = lit< tt; digits = refl; rest = refl }
 
-pub count_by : (hi : ℕ) (s : Bytes) (q : Bool) → between 1 hi (length s) ≡ true → all is_digit s ≡ q → count_in hi s ≡ if q then some (value s) else none
-unfolding count_in digits
-count_by hi s q h e = rw (h, e)
+module _ {s : Bytes} {i n : ℕ} (r : ReadTo s i n) where
+  pub read_low : i < length s → n < 10000000000
+  read_low h = below_ten n i r.below (omega (arith, r.few))
+
+  pub read_more : i < length s → is_digit (get_or s i 0) ≡ true → ReadTo s (i + 1) (n * 10 + (get_or s i 0 - 48))
+  read_more h e =
+      let d = digit_at s i e in
+      record {
+        few = r.few;
+        below = below_more n (get_or s i 0 - 48) i r.below (omega arith);
+        digits = r.digits ∙ all_step is_digit s 0 i true h e;
+        rest = r.rest ∙ value_step n s i h;
+      }
+
+  pub read_other : i < length s → is_digit (get_or s i 0) ≡ false → all is_digit s ≡ false
+  read_other h e = r.digits ∙ all_step is_digit s 0 i false h e
+
+  pub read_all : length s ≤ i → (all is_digit s ≡ true) × (value s ≡ n)
+  read_all h = (r.digits ∙ all_end is_digit s i h, r.rest ∙ value_end n s i h)
 
 -- the number is that count, and 0 where there is none: no digits stand for 0, too
-pub value_counted : (s : Bytes) → up_to_ten s ≡ or_else (count_in 10 s) 0
+pub value_counted : (s : Bytes) → up_to_ten s ≡ unwrap_or (count_in 10 s) 0
 unfolding up_to_ten count_in digits value value_from all
 value_counted [] = refl
 value_counted (b ∷ bs) =
     rw (le-leb 0 (suc (length bs)) (omega arith), le-leb 1 (suc (length bs)) (omega arith))
     (go (leb (suc (length bs)) 10 && all is_digit (b ∷ bs)) (value (b ∷ bs)))
   where
-    go : (q : Bool) (n : ℕ) → (if q then n else 0) ≡ or_else (if q then some n else none) 0
+    go : (q : Bool) (n : ℕ) → (if q then n else 0) ≡ unwrap_or (if q then Some n else None) 0
     go true n = refl
     go false n = refl
 

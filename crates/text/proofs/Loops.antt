@@ -4,12 +4,11 @@ use mathlib.Core.Path.{◌≡◌, refl, ap}
 use mathlib.Core.Bool.{Bool, true, false, ◌&&◌, ◌||◌}
 use mathlib.Core.List.{List, [], ◌∷◌}
 use native.Mathlib.Numerals.{add-one}
-use native.Mathlib.Omega.{arith}
 use lib.Dec.{eqb}
-use lib.ListN.{length, get_or, take, drop, drop_of_length-le, take-append-drop, length-drop}
-use lib.Seq.{drop-cons, take-suc, take-add, drop-drop, get_or-drop}
+use lib.ListN.{length, get_or, take, drop, drop_of_length-le, take-append-drop}
+use lib.Seq.{drop-cons}
 use Rattle.rules.specs.Base.{Bytes, same, all, any}
-use Rattle.rules.proofs.Logic.{all_right, any_append}
+use Rattle.rules.proofs.Logic.{all_right}
 
 pub and_false : (a : Bool) → a && false ≡ false
 and_false true = refl
@@ -50,31 +49,12 @@ module _ {A : Type 0} (p : A → Bool) (xs : List A) (k : ℕ) (h : length xs �
   unfolding any
   any_end = rw (drop_of_length-le xs {i = k} h)
 
--- any of a run of elements that is one longer, and of two runs
-module _ {A : Type 0} (p : A → Bool) where
-  pub any_more : (xs : List A) (d : A) (i n : ℕ) → i + n < length xs → any p (take (suc n) (drop i xs)) ≡ any p (take n (drop i xs)) || p (get_or xs (i + n) d)
-  unfolding any
-  any_more xs d i n h =
-      rw (take-suc (drop i xs) n d (omega (arith, length-drop i xs)), any_append p (take n (drop i xs)), get_or-drop i xs n d, or_false (p (get_or xs (i + n) d)))
-
-  pub any_runs : (xs : List A) (i n m : ℕ) → any p (take (n + m) (drop i xs)) ≡ any p (take n (drop i xs)) || any p (take m (drop (i + n) xs))
-  any_runs xs i n m = rw (take-add n m (drop i xs), any_append p (take n (drop i xs)), drop-drop n i xs)
-
 -- what all pass, all of a part pass
 module _ {A : Type 0} (p : A → Bool) (k : ℕ) (xs : List A) (e : all p xs ≡ true) where
   pub all_drop : all p (drop k xs) ≡ true
   all_drop = all_right p (take k xs) (drop k xs) (rw take-append-drop e)
 
--- two byte strings: the bytes at k are equal as q says, and the rest decides
-pub same_step : (a b : Bytes) (k : ℕ) (q : Bool) → k < length a → k < length b → eqb (get_or a k 0) (get_or b k 0) ≡ q
-    → same (drop k a) (drop k b) ≡ q && same (drop (k + 1) a) (drop (k + 1) b)
-unfolding same
-same_step a b k q h h' e = rw (left_cons a k h, left_cons b k h', e)
-
-pub same_end : (a b : Bytes) (k : ℕ) → length a ≤ k → length b ≤ k → same (drop k a) (drop k b) ≡ true
-unfolding same
-same_end a b k h h' = rw (drop_of_length-le a {i = k} h, drop_of_length-le b {i = k} h')
-
+-- byte strings of different lengths
 pub same_lengths : (a b : Bytes) → (length a ≡ length b → ⊥) → same a b ≡ false
 unfolding same
 same_lengths [] [] h = absurd (h refl)

@@ -8,7 +8,8 @@ use borrow.Author.Tests.{eq-eqb, ne_eqb}
 use lib.Dec.{eqb}
 use lib.ListN.{length, get_or, take, drop, length-drop, take-append-drop}
 use lib.Seq.{drop-drop, length-take-le}
-use Rattle.rules.specs.Base.{Bytes, any}
+use Rattle.std.specs.List.{list_any}
+use Rattle.rules.specs.Base.{Bytes}
 use Rattle.rules.proofs.Logic.{or_left, or_right}
 use Rattle.text.specs.Text.{index_of, index_where}
 use Rattle.text.proofs.Where.{next_here, next_later, next_none, next_within}
@@ -24,15 +25,15 @@ module _ (b : ℕ) (s : Bytes) (i : ℕ) where
   index_none h = next_none (λ x. eqb x b) s 0 i h
 
 -- bytes without a b are passed over
-pub index_over : (b : ℕ) (xs ys : Bytes) → any (λ x. eqb x b) xs ≡ false → index_of b (xs ++ ys) ≡ length xs + index_of b ys
-unfolding index_where any
+pub index_over : (b : ℕ) (xs ys : Bytes) → list_any (λ x. eqb x b) xs ≡ false → index_of b (xs ++ ys) ≡ length xs + index_of b ys
+unfolding index_where
 index_over b [] ys e = omega arith
 index_over b (x ∷ xs) ys e =
-    let o = or_left (eqb x b) (any (λ y. eqb y b) xs) e in
-    let r = index_over b xs ys (or_right (eqb x b) (any (λ y. eqb y b) xs) e) in
+    let o = or_left (eqb x b) (list_any (λ y. eqb y b) xs) e in
+    let r = index_over b xs ys (or_right (eqb x b) (list_any (λ y. eqb y b) xs) e) in
     rw (o, r) (omega arith)
 
-pub index_past : (b : ℕ) (s : Bytes) (i n : ℕ) → i + n ≤ length s → any (λ x. eqb x b) (take n (drop i s)) ≡ false
+pub index_past : (b : ℕ) (s : Bytes) (i n : ℕ) → i + n ≤ length s → list_any (λ x. eqb x b) (take n (drop i s)) ≡ false
     → i + index_of b (drop i s) ≡ i + n + index_of b (drop (i + n) s)
 index_past b s i n h e =
     let l = length-take-le n (drop i s) (omega (arith, length-drop i s)) in

@@ -1,10 +1,7 @@
 -- What the leaves on bytes answer where document 01 has no definition of it.
 use Rattle.std.specs.Prelude.{ℕ, suc, ◌+◌, ◌-◌, Bool, List, [], ◌∷◌, eqb, take, drop, if◌then◌else◌}
-use Rattle.std.proofs.Math.Option.{Option, none, some}
 use Rattle.rules.specs.Base.{Bytes}
 use Rattle.rules.specs.Numbers.{digits, value}
-use Rattle.text.specs.declared.Count.{Count}
-use Rattle.text.specs.declared.Count.TheVariants.{Of, Nothing}
 
 -- how many come before the first that passes; all where none does
 unfoldable pub index_where {ℓ} : {A : Type ℓ} → (A → Bool) → List A → ℕ
@@ -26,8 +23,3 @@ part s from to = take (to - from) (drop from s)
 -- the value of at most ten digits, 0 for anything else
 unfoldable pub up_to_ten : Bytes → ℕ
 up_to_ten bs = if digits 0 10 bs then value bs else 0
-
--- a count as it is told, where there is one
-abbrev pub counted : Option ℕ → Count
-counted none = Nothing
-counted (some n) = Of n

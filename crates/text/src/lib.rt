@@ -1,59 +1,35 @@
 #![tactic(auto)]
 // Leaves on bytes: searching, comparing, digits and the numbers that they stand for, times, valid bytes.
-ghost use Rattle.std.specs.Prelude.{◌≡◌, ◌||◌, ◌+◌, ◌≤◌, min, eqb, length, take, drop};
-ghost use Rattle.rules.specs.Base.{between, is_digit, is_upper, is_upper_or_digit, same, all, any};
+ghost use Rattle.std.specs.Prelude.{◌≡◌, ◌||◌, ◌+◌, min, drop};
+ghost use Rattle.rules.specs.Base.{between, is_digit, is_upper_or_digit, same, all};
 ghost use Rattle.rules.specs.Cutting.{valid, text};
 ghost use Rattle.rules.specs.Numbers.{digits, count_in, declares, is_time};
 ghost use Rattle.rules.specs.Elements as law;
-ghost use Rattle.text.specs.Text.{index_of, part, up_to_ten, counted};
+ghost use Rattle.text.specs.Text.{index_of, part, up_to_ten};
 
 use rules::Delimiters;
 
 // The place of the first b from `from` on; the length where there is none, and `from` where that is past the end.
-// Byte by byte: b is near, as the end of an element is.
+// Byte by byte: b is near, as the end of an element is. The end stands for none, and is no `Option`: callers cut up to it.
 pub fn find_near(s: &[u8], from: usize, b: u8) -> usize
     ensures { result ≡ from + index_of b (drop from s.now) }
 {
-    let mut i = from;
-    while i < s.len() {
+    for i in from..s.len() {
         if s[i] == b {
             return i;
         }
-        i += 1;
     }
-    i
+    from.max(s.len())
 }
 
-// One of the four bytes from i on is b; none is left uncompared, so that a machine can compare them at once.
-fn is_in_four(s: &[u8], i: usize, b: u8) -> bool
-    requires { i + 4 ≤ length s.now }
-    ensures { result ≡ any (λ x. eqb x b) (take 4 (drop i s.now)) }
-{
-    (s[i] == b) | (s[i + 1] == b) | (s[i + 2] == b) | (s[i + 3] == b)
-}
-
-// One of the eight bytes from i on is b, compared likewise.
-fn is_in_eight(s: &[u8], i: usize, b: u8) -> bool
-    requires { i + 8 ≤ length s.now }
-    ensures { result ≡ any (λ x. eqb x b) (take 8 (drop i s.now)) }
-{
-    is_in_four(s, i, b) | is_in_four(s, i + 4, b)
-}
-
-// The same, eight bytes a turn: b is far, as the end of a segment is.
+// The same, eight bytes a turn: b is far, as the end of a segment is. No `chunks`: the search goes on in the middle of what is lent.
 pub fn find(s: &[u8], from: usize, b: u8) -> usize
     ensures { result ≡ from + index_of b (drop from s.now) }
 {
-    if s.len() < 8 {
-        return find_near(s, from, b);
-    }
     // From here on fewer than eight bytes are left.
-    let few = s.len() - 7;
+    let few = s.len().saturating_sub(7);
     let mut i = from;
-    while i < few {
-        if is_in_eight(s, i, b) {
-            break;
-        }
+    while i < few && !s[i..i + 8].contains(&b) {
         i += 8;
     }
     find_near(s, i, b)
@@ -63,60 +39,28 @@ pub fn find(s: &[u8], from: usize, b: u8) -> usize
 pub fn part(s: &[u8], from: usize, to: usize) -> &[u8]
     ensures { result.now ≡ part s.now from to }
 {
-    if s.len() <= from {
-        return &s[0..0];
-    }
-    if to <= from {
-        return &s[0..0];
-    }
-    if s.len() <= to {
-        return &s[from..];
-    }
-    &s[from..to]
+    s.get(from..to.min(s.len())).unwrap_or(&[])
 }
 
-// Byte for byte the same.
+// Byte for byte the same. It has a name for its promise, by the word `same` of the definitions, as `is_between` has.
 pub fn same_bytes(a: &[u8], b: &[u8]) -> bool
     ensures { result ≡ same a.now b.now }
 {
-    if a.len() != b.len() {
-        return false;
-    }
-    let mut i = 0;
-    while i < a.len() {
-        if a[i] != b[i] {
-            return false;
-        }
-        i += 1;
-    }
-    true
+    a == b
 }
 
 // n is one of lo to hi.
 pub fn is_between(n: usize, lo: usize, hi: usize) -> bool
     ensures { result ≡ between lo hi n }
 {
-    lo <= n && n <= hi
-}
-
-fn is_digit(b: u8) -> bool
-    ensures { result ≡ is_digit b }
-{
-    b'0' <= b && b <= b'9'
+    (lo..=hi).contains(&n)
 }
 
 // Nothing but digits.
 pub fn all_digits(s: &[u8]) -> bool
     ensures { result ≡ all is_digit s.now }
 {
-    let mut i = 0;
-    while i < s.len() {
-        if !is_digit(s[i]) {
-            return false;
-        }
-        i += 1;
-    }
-    true
+    s.iter().all(|b| b.is_ascii_digit())
 }
 
 // lo to hi digits and nothing else.
@@ -126,58 +70,35 @@ pub fn is_digits(s: &[u8], lo: usize, hi: usize) -> bool
     is_between(s.len(), lo, hi) && all_digits(s)
 }
 
-// The count that digits stand for, where they do.
-#[derive(Clone, Copy)]
-pub enum Count {
-    Of(u64),
-    Nothing,
-}
-
-// As many digits as a value can be read from.
-fn at_most_ten(most: usize) -> usize
-    ensures { result ≡ min most 10 }
+// The count that one to `most` digits stand for, or one to ten where `most` is greater. No `parse`: it reads a `str`, and takes a plus.
+pub fn count_in(s: &[u8], most: usize) -> Option<u64>
+    ensures { result ≡ count_in (min most 10) s.now }
 {
-    if most < 10 { most } else { 10 }
-}
-
-// The count that one to `most` digits stand for, or one to ten where `most` is greater.
-pub fn count_in(s: &[u8], most: usize) -> Count
-    ensures { result ≡ counted (count_in (min most 10) s.now) }
-{
-    if !is_between(s.len(), 1, at_most_ten(most)) {
-        return Count::Nothing;
+    if !is_between(s.len(), 1, most.min(10)) {
+        return None;
     }
-    let mut n: u64 = 0;
-    let mut i = 0;
-    while i < s.len() {
-        let b = s[i];
-        if !is_digit(b) {
-            return Count::Nothing;
+    let mut n = 0;
+    for &b in s {
+        if !b.is_ascii_digit() {
+            return None;
         }
-        n = n * 10 + (b - b'0') as u64;
-        i += 1;
+        n = n * 10 + u64::from(b - b'0');
     }
-    Count::Of(n)
+    Some(n)
 }
 
 // The number that at most ten digits stand for; 0 for anything else.
 pub fn value(s: &[u8]) -> u64
     ensures { result ≡ up_to_ten s.now }
 {
-    match count_in(s, 10) {
-        Count::Of(n) => n,
-        Count::Nothing => 0,
-    }
+    count_in(s, 10).unwrap_or(0)
 }
 
 // One to `most` digits declare the count n, where one to ten are read at most.
 pub fn declares(s: &[u8], most: usize, n: u64) -> bool
     ensures { result ≡ declares (min most 10) s.now n }
 {
-    match count_in(s, most) {
-        Count::Of(m) => n == m,
-        Count::Nothing => false,
-    }
+    count_in(s, most) == Some(n)
 }
 
 // As many digits as a time may have: HHMM, HHMMSS, and one or two more.
@@ -194,26 +115,14 @@ pub fn is_time(s: &[u8]) -> bool
     if !is_time_digits(s) {
         return false;
     }
-    if 23 < value(&s[0..2]) {
-        return false;
-    }
-    if 59 < value(&s[2..4]) {
-        return false;
-    }
-    s.len() == 4 || value(&s[4..6]) <= 59
+    value(&s[..2]) <= 23 && value(&s[2..4]) <= 59 && (s.len() == 4 || value(&s[4..6]) <= 59)
 }
 
 // A valid byte: 32 to 126 and no delimiter. The range is asked first: more than half of the 256 bytes are out of it.
 pub fn is_valid(b: u8, d: Delimiters) -> bool
     ensures { result ≡ valid d b }
 {
-    if b < 32 {
-        return false;
-    }
-    if 126 < b {
-        return false;
-    }
-    !d.is_mark(b)
+    matches!(b, 32..=126) && !d.is_mark(b)
 }
 
 // Nothing but valid bytes. All are looked at, which takes fewer branches than to stop at the first that is not.
@@ -221,10 +130,8 @@ pub fn all_valid(s: &[u8], d: Delimiters) -> bool
     ensures { result ≡ all (valid d) s.now }
 {
     let mut valid = true;
-    let mut i = 0;
-    while i < s.len() {
-        valid = valid & is_valid(s[i], d);
-        i += 1;
+    for &b in s {
+        valid &= is_valid(b, d);
     }
     valid
 }
@@ -233,54 +140,20 @@ pub fn all_valid(s: &[u8], d: Delimiters) -> bool
 pub fn is_text(s: &[u8], lo: usize, hi: usize, d: Delimiters) -> bool
     ensures { result ≡ text d lo hi s.now }
 {
-    if !is_between(s.len(), lo, hi) {
-        return false;
-    }
-    let mut i = 0;
-    while i < s.len() {
-        if !is_valid(s[i], d) {
-            return false;
-        }
-        i += 1;
-    }
-    true
-}
-
-fn is_upper(b: u8) -> bool
-    ensures { result ≡ is_upper b }
-{
-    b'A' <= b && b <= b'Z'
-}
-
-fn is_upper_or_digit(b: u8) -> bool
-    ensures { result ≡ is_upper_or_digit b }
-{
-    is_upper(b) || is_digit(b)
+    is_between(s.len(), lo, hi) && s.iter().all(|&b| is_valid(b, d))
 }
 
 // Nothing but uppercase letters and digits.
 pub fn is_name(s: &[u8]) -> bool
     ensures { result ≡ all is_upper_or_digit s.now }
 {
-    let mut i = 0;
-    while i < s.len() {
-        if !is_upper_or_digit(s[i]) {
-            return false;
-        }
-        i += 1;
-    }
-    true
+    s.iter()
+        .all(|b| b.is_ascii_uppercase() || b.is_ascii_digit())
 }
 
 // Without a leading minus.
 pub fn unsigned(s: &[u8]) -> &[u8]
     ensures { result.now ≡ law.unsigned s.now }
 {
-    if s.len() == 0 {
-        return s;
-    }
-    if s[0] == b'-' {
-        return &s[1..];
-    }
-    s
+    s.strip_prefix(b"-").unwrap_or(s)
 }

@@ -1,11 +1,11 @@
 -- What a set's codes and a group's summary are decided by: trailers, and the rules of both.
-use Rattle.std.specs.Prelude.{ℕ, Bool, true, false, not, List, [], ◌∷◌, map, get_or, if◌then◌else◌}
-use Rattle.std.proofs.Math.Option.{Option, none, some}
-use Rattle.rules.specs.Base.{Bytes, Rule, ◌⇒◌, is_none, holds, ascii, same}
-use Rattle.rules.specs.Cutting.{Segment, field}
+use Rattle.std.specs.Prelude.{ℕ, Bool, not, List, [], ◌∷◌, map, get_or, if◌then◌else◌, unwrap_or, is_none, Option}
+use Rattle.std.specs.Option.{option_map}
+use Rattle.rules.specs.Base.{Bytes, Rule, ◌⇒◌, holds, ascii, same}
+use Rattle.rules.specs.Cutting.{Segment, field, split}
 use Rattle.rules.specs.Numbers.{declares, decimal}
 use Rattle.rules.specs.Sets.{declared_in}
-use Rattle.rules.specs.Groups.{verdict, or_else}
+use Rattle.rules.specs.Groups.{verdict}
 use Rattle.guides.specs.Choice.{has_tables}
 use Rattle.guides.specs.declared.Scope.{Scope}
 use Rattle.verdicts.specs.Collecting.{codes_of, collected}
@@ -13,11 +13,12 @@ use Rattle.verdicts.specs.declared.Codes.{Codes}
 use Rattle.verdicts.specs.declared.SetFacts.{SetFacts}
 use Rattle.verdicts.specs.declared.Summary.{Summary}
 use Rattle.verdicts.specs.declared.Tally.{Tally}
+use Rattle.verdicts.specs.declared.Verdict.{Verdict}
+use Rattle.verdicts.specs.declared.Verdict.TheVariants.{Accepted, Partly, Rejected}
 
--- the trailer of what is closed
-abbrev pub trailer_if : Bool → Segment → Option Segment
-trailer_if true s = some s
-trailer_if false s = none
+-- the trailer of what has one, by its bytes and its separator
+abbrev pub trailer_if : ℕ → Option Bytes → Option Segment
+trailer_if e = option_map (split e)
 
 -- there is a trailer with another control number
 abbrev pub other_control : Bytes → Option Segment → Bool
@@ -48,13 +49,19 @@ group_code_rules scope gs ge sets =
     (other_count 6 sets ge ⇒ 5) ∷
     []
 
+-- AK901 as it is written
+abbrev pub verdict_out : Verdict → Bytes
+verdict_out Accepted = ascii "A"
+verdict_out Partly = ascii "P"
+verdict_out Rejected = ascii "R"
+
 -- AK901 to AK904 and the codes of a group, where AK901 is the one byte of the law's verdict
 unfoldable pub summary_by : Codes → Option Segment → Tally → Summary
 summary_by codes ge sets =
     let v = verdict (codes_of codes) sets.received sets.accepted in
     record {
       verdict = get_or v 0 0;
-      included = or_else (declared_in 6 ge) sets.received;
+      included = unwrap_or (declared_in 6 ge) sets.received;
       received = sets.received;
       allowed = if same v (ascii "R") then 0 else sets.accepted;
       codes = codes;

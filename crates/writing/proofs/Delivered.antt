@@ -1,4 +1,5 @@
 -- A response in a buffer: what it is to be told that it does not fit, and to have it written.
+use Rattle.std.specs.Prelude.{Ok, Err}
 use Prim.Native.Nat.{ℕ, ◌≤◌, ◌<◌}
 use mathlib.Core.Path.{◌≡◌, refl, ◌∙◌}
 use native.Mathlib.Omega.{arith}
@@ -6,7 +7,7 @@ use borrow.Author.Tests.{le-leb, lt-leb}
 use lib.ListN.{length}
 use Rattle.rules.specs.Base.{Bytes}
 use Rattle.rules.specs.Answers.{fitting, buffer}
-use Rattle.rules.specs.declared.Answer.TheVariants.{Written, TooLong}
+use Rattle.rules.specs.declared.Refusal.TheVariants.{TooLong}
 use Rattle.writing.specs.Over.{sat, Wrote}
 use Rattle.writing.proofs.Over.{over_fits}
 use Rattle.writing.proofs.Laws.{exact}
@@ -17,11 +18,11 @@ module _ (o t : Bytes) {n : ℕ} (told : n ≡ sat (length t)) (small : length t
   length_is = omega arith
 
   -- it does not fit: the buffer is as it was
-  pub too_long : length o < n → (TooLong n ≡ fitting t (length o)) × (o ≡ o)
+  pub too_long : length o < n → (Err (TooLong n) ≡ fitting t (length o)) × (o ≡ o)
   too_long h = (rw (lt-leb (length t) (length o) (rw length_is at h), length_is), refl)
 
   -- it fits, and is written
-  pub written : {q : Bytes} {m : ℕ} → n ≤ length o → Wrote t m o q → (Written m ≡ fitting t (length o)) × (q ≡ buffer (Written m) t o)
+  pub written : {q : Bytes} {m : ℕ} → n ≤ length o → Wrote t m o q → (Ok m ≡ fitting t (length o)) × (q ≡ buffer (Ok m) t o)
   written {q} {m} h w =
       let fits : length t ≤ length o = rw length_is at h in
       let e = exact w (omega arith) in

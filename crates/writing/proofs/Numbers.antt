@@ -1,12 +1,13 @@
 -- The laws of `decimal`, `padded` and `optional`: one digit more, and digits that are written from the last one on.
-use Rattle.std.specs.Prelude.{if◌then◌else◌}
+use Rattle.std.specs.Prelude.{if◌then◌else◌, Option, Some, None, IfSome, IfNone, unwrap_or}
 use mathlib.Core.Path.{◌≡◌, refl, sym, ap, ◌∙◌}
 use mathlib.Core.List.{[], ◌∷◌, ◌++◌}
-use Prim.Native.Nat.{ℕ, zero, suc, ◌+◌, ◌-◌, ◌*◌, ◌/◌, ◌%◌, ◌≤◌, ◌<◌}
+use Prim.Native.Nat.{ℕ, zero, suc, ◌+◌, ◌-◌, ◌*◌, ◌/◌, ◌%◌, ◌^◌, ◌≤◌, ◌<◌}
 use native.Mathlib.Omega.{arith}
+use native.Mathlib.Numerals.{add-one}
 use lib.Dec.{ltb}
 use lib.ListN.{set}
-use borrow.Author.Tests.{lt-ltb, le-ltb, eq-eqb, ne_eqb}
+use borrow.Author.Tests.{lt-ltb, le-ltb, eq-eqb}
 use Rattle.rules.specs.Base.{Bytes}
 use Rattle.rules.specs.Numbers.{padded, digits_of, decimal}
 use Rattle.rules.proofs.Lengths.{padded_length}
@@ -51,28 +52,20 @@ pub padded_done : (i n : ℕ) (o : Bytes) → i ≡ 0 → over (padded i n) o �
 unfolding padded over
 padded_done i n o e = rw e
 
--- So many digits are counted, and as many as rest has make the digits of v.
-abbrev pub Counts : ℕ → ℕ → ℕ → Type 0
-Counts v more rest = (k : ℕ) → padded k rest ≡ decimal rest → padded (k + more) v ≡ decimal v
-
-pub count_start : (v : ℕ) → Counts v 0 v
-count_start v k e = let sum : k + 0 ≡ k = omega arith in rw sum e
-
-pub count_turn : (v more rest : ℕ) → 10 ≤ rest → rest < 18446744073709551616 → Counts v more rest → Counts v (more + 1) (rest / 10)
+-- a number has one digit more than its largest power of 10 has zeros
+counted : (k v : ℕ) → 10 ^ k ≤ v → v < 10 * 10 ^ k → v < 18446744073709551616 → padded (suc k) v ≡ decimal v
 unfolding padded
-count_turn v more rest h small counts k e =
-    let one : padded (suc k) rest ≡ decimal rest = ap (λ (l : Bytes). l ++ (48 + rest % 10) ∷ []) e ∙ sym (decimal_more rest h small) in
-    let sum : k + (more + 1) ≡ suc k + more = omega arith in
-    rw sum (counts (suc k) one)
+counted zero v low high small = sym (decimal_small v high)
+counted (suc k) v low high small =
+    ap (λ (l : Bytes). l ++ (48 + v % 10) ∷ []) (counted k (v / 10) (omega arith) (omega arith) (omega arith))
+    ∙ sym (decimal_more v (omega arith) small)
 
-pub count_done : (v more rest : ℕ) → rest < 10 → Counts v more rest → padded (more + 1) v ≡ decimal v
+-- and 0 has one digit
+pub digits_counted : (o : Option ℕ) (v : ℕ) → IfNone o (v ≡ 0) → IfSome o (λ k. 10 ^ k ≤ v) → IfSome o (λ k. v < 10 * 10 ^ k) → v < 18446744073709551616
+    → padded (unwrap_or o 0 + 1) v ≡ decimal v
 unfolding padded
-count_done v more rest h counts =
-    let sum : more + 1 ≡ 1 + more = omega arith in
-    rw sum (counts 1 (sym (decimal_small rest h)))
+digits_counted None v none low high small = sym (decimal_small v (omega arith))
+digits_counted (Some k) v none low high small = rw add-one (counted k v low high small)
 
 pub optional_none : (n : ℕ) → n ≡ 0 → optional n ≡ []
 optional_none n e = rw (eq-eqb n 0 e)
-
-pub optional_some : (n : ℕ) → (n ≡ 0 → ⊥) → optional n ≡ decimal n
-optional_some n h = rw (ne_eqb n 0 h)

@@ -3,9 +3,8 @@ use mathlib.Core.Path.{◌≡◌, refl, sym, ap, ◌∙◌}
 use mathlib.Core.List.{[], ◌∷◌, ◌++◌}
 use Prim.Native.Nat.{ℕ, zero, suc, ◌+◌, ◌≤◌, ◌<◌, min}
 use native.Mathlib.Nat.{not-suc-le-zero, le_of_suc-le-suc, zero-add, suc-add}
-use native.Mathlib.Numerals.{add-one}
 use native.Mathlib.Omega.{arith}
-use lib.ListN.{length, take, drop, set, get_or}
+use lib.ListN.{length, take, drop, set}
 use Rattle.rules.specs.Base.{Bytes}
 use Rattle.writing.specs.Over.{over, from, sat}
 
@@ -38,38 +37,13 @@ over_fits [] o h = refl
 over_fits (x ∷ t) [] h = absurd (not-suc-le-zero h)
 over_fits (x ∷ t) (y ∷ o) h = ap (λ (l : Bytes). x ∷ l) (over_fits t o (le_of_suc-le-suc h))
 
--- one byte more of a text is one store more
-over_one : (t o : Bytes) (i : ℕ) → i < length t → over (take (suc i) t) o ≡ set (over (take i t) o) i (get_or t i 0)
+-- of a text that does not fit stands as much as does
+pub over_full : (t o : Bytes) → length o ≤ length t → over t o ≡ take (length o) t
 unfolding over
-over_one [] o i h = absurd (not-suc-le-zero h)
-over_one (x ∷ t) [] zero h = refl
-over_one (x ∷ t) (y ∷ o) zero h = refl
-over_one (x ∷ t) [] (suc i) h = refl
-over_one (x ∷ t) (y ∷ o) (suc i) h = ap (λ (l : Bytes). x ∷ l) (over_one t o i (le_of_suc-le-suc h))
-
--- a copying loop's turn
-pub over_turn : (t o out : Bytes) (i : ℕ) → out ≡ over (take i t) o → i < length t → set out i (get_or t i 0) ≡ over (take (i + 1) t) o
-over_turn t o out i e h = rw (e, add-one) (sym (over_one t o i h))
-
--- what does not fit makes no difference
-over_clip : (n : ℕ) (t o : Bytes) → min (length t) (length o) ≤ n → over (take n t) o ≡ over t o
-unfolding over
-over_clip zero [] o h = refl
-over_clip zero (x ∷ t) [] h = refl
-over_clip zero (x ∷ t) (y ∷ o) h = absurd (omega (arith, h))
-over_clip (suc n) [] o h = refl
-over_clip (suc n) (x ∷ t) [] h = refl
-over_clip (suc n) (x ∷ t) (y ∷ o) h = ap (λ (l : Bytes). x ∷ l) (over_clip n t o (omega arith))
-
--- a copying loop's end
-pub over_whole : (t o out : Bytes) (i : ℕ) → out ≡ over (take i t) o → min (length t) (length o) ≤ i → out ≡ over t o
-over_whole t o out i e h = e ∙ over_clip i t o h
-
--- no byte is stored past the end
-pub set_past : (o : Bytes) (i b : ℕ) → length o ≤ i → set o i b ≡ o
-set_past [] i b h = refl
-set_past (y ∷ o) zero b h = absurd (not-suc-le-zero h)
-set_past (y ∷ o) (suc i) b h = ap (λ (l : Bytes). y ∷ l) (set_past o i b (le_of_suc-le-suc h))
+over_full [] [] h = refl
+over_full [] (y ∷ o) h = absurd (not-suc-le-zero h)
+over_full (x ∷ t) [] h = refl
+over_full (x ∷ t) (y ∷ o) h = ap (λ (l : Bytes). x ∷ l) (over_full t o (le_of_suc-le-suc h))
 
 -- a text whose last byte stands already
 pub over_last : (t : Bytes) (b : ℕ) (o : Bytes) → over (t ++ b ∷ []) o ≡ over t (set o (length t) b)

@@ -2,10 +2,9 @@
 use Prim.Native.Nat.{ℕ}
 use mathlib.Core.Path.{◌≡◌}
 use Rattle.rules.specs.Base.{Bytes}
-use Rattle.rules.specs.Answers.{Reply, Outcome, Allowed, called, number, size}
-use Rattle.rules.specs.declared.Answer.{Answer}
-use Rattle.rules.proofs.Facts.{allowed_outcome}
+use Rattle.rules.specs.Answers.{Answer, Reply, Outcome, Allowed, called, number, size}
+use Rattle.rules.proofs.Facts.{Numbered, allowed_outcome}
 
-pub delivered : (reply : Reply) (lent : Bytes) (a : Answer) {left : Bytes} {n m : ℕ} → Allowed reply lent a left → (n ≡ number a) × (m ≡ size a)
+pub delivered : (reply : Reply) (lent : Bytes) (a : Answer) {left : Bytes} {n m : ℕ} → Numbered reply → Allowed reply lent a left → (n ≡ number a) × (m ≡ size a)
     → ◌≡◌ {A = Outcome} (record { number = n; size = m; buffer = left }) (called reply lent)
-delivered reply lent a p (e, f) = rw (e, f) (allowed_outcome reply lent a p)
+delivered reply lent a numbered p (e, f) = rw (e, f) (allowed_outcome reply lent a numbered p)

@@ -4,29 +4,23 @@ ghost use Rattle.std.specs.Prelude.{◌≡◌};
 ghost use Rattle.rules.specs.Answers as law;
 ghost use Rattle.rules.specs.Answers.{functional_acknowledgment, interchange_acknowledgment, called};
 
-use rules::{Answer, Call};
+use rules::{Answer, Call, Refusal};
 
-// Stores the length of an answer; its number comes back.
+// Stores the length of an answer; its number comes back, as `x12_acknowledge` and `x12_acknowledge_interchange` have it for C.
 fn tell(answer: Answer, length: &mut usize) -> u32
     ensures { (result ≡ law.number answer) × (length.new ≡ law.size answer) }
 {
+    *length = match answer {
+        Ok(n) | Err(Refusal::TooLong(n)) => n,
+        Err(_) => 0,
+    };
     match answer {
-        Answer::Written(n) => {
-            *length = n;
-            0
-        }
-        Answer::Refused(number) => {
-            *length = 0;
-            number as u32
-        }
-        Answer::TooLong(n) => {
-            *length = n;
-            14
-        }
+        Ok(_) => 0,
+        Err(refusal) => refusal.number() as u32,
     }
 }
 
-// The 997 of an interchange.
+// The 997 of an interchange. This function and the next have one shape, and stay two: C calls each by its name.
 #[unsafe(no_mangle)]
 pub extern "C" fn x12_acknowledge(
     interchange: &[u8],

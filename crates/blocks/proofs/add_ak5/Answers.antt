@@ -4,4 +4,4 @@ use Rattle.blocks.proofs.add_ak5.Goals as goal
 
 pub returns : goal.returns
 returns c =
-    end (more (more (begin _ c.add_bytes-n.ensures) _ (rw c.verdict_of.ensures at c.add_single-n.ensures)) _ c.add_codes-n.ensures) c.add_byte.ensures
+    end (more (more (begin _ c.add-n.ensures) _ (rw c.verdict_of.ensures at c.add_field-n.ensures)) _ c.add_codes-n.ensures) c.add.ensures

@@ -1,11 +1,7 @@
 -- `dates::is_day` meets its contract.
 use mathlib.Core.Path.{sym, ◌∙◌}
 use Rattle.rules.specs.Numbers.{is_day}
-use Rattle.rules.proofs.Calendar.{within}
 use Rattle.dates.proofs.is_day.Goals as goal
-
-pub month_length-requires : goal.month_length-requires
-month_length-requires c = within _ _ _ (sym c.is_between.ensures ∙ c.if-is_between.true)
 
 pub returns-then-is_between : goal.returns-then-is_between
 unfolding is_day

@@ -1,22 +1,24 @@
 -- `elements::after_present` meets its contract.
-use Rattle.elements.proofs.Notes.{rest}
-use Rattle.std.proofs.Common.{◌+◌, sym, ap, ◌∙◌, arith}
+use Rattle.std.proofs.Common.{◌≡◌, ◌+◌, sym, ◌∙◌, rules, tests}
+use Rattle.std.specs.List.{position}
 use Rattle.rules.specs.Cutting.{split}
 use Rattle.rules.specs.Elements.{present}
-use Rattle.elements.proofs.Notes.{after_here, after_later, after_none}
+use Rattle.text.proofs.Library.{position_of}
+use Rattle.elements.proofs.Notes.{rest, after_some, after_none}
 use Rattle.elements.proofs.after_present.Goals as goal
+use Rattle.elements.proofs.after_present.Goals.{After-position}
 
-pub returns-then-is_present : goal.returns-then-is_present
-returns-then-is_present c =
+found : (c : After-position) → c.position.result ≡ position (present (split c.args.e c.args.s.now)) c.args.places.now
+found c = position_of (present (split c.args.e c.args.s.now)) c.position.ensures.ran c.iter.ensures.rest (λ x b q k. search (rules, tests))
+
+pub returns-in-Some : goal.returns-in-Some
+returns-in-Some c =
     let a = c.args in
-    let p = present (split a.e a.s.now) in
-    rest a.places.now (c.loop-i.i + 1) ∙ sym (c.loop-i.invariant.1 ∙ after_here _ _ _ c.loop-i-test.true (ap p (sym c.place_at-place.ensures) ∙ sym c.is_present.ensures ∙ c.if-is_present.true))
+    let at = found (goal.at.returns-in-Some c).After-position in
+    rest a.places.now (c.in-Some.i + 1) ∙ sym (after_some (split a.e a.s.now) a.places.now (sym at ∙ c.in-Some.is))
 
-pub loop-i-preserved : goal.loop-i-preserved
-loop-i-preserved c =
+pub returns-in-None : goal.returns-in-None
+returns-in-None c =
     let a = c.args in
-    let p = present (split a.e a.s.now) in
-    (omega arith, c.loop-i.invariant.1 ∙ after_later _ _ _ c.loop-i-test.true (ap p (sym c.place_at-place.ensures) ∙ sym c.is_present.ensures ∙ c.if-is_present.false))
-
-pub returns : goal.returns
-returns c = rest c.args.places.now c.loop-i.i ∙ sym (c.loop-i.invariant.1 ∙ after_none _ _ _ c.loop-i-test.false)
+    let at = found (goal.at.returns-in-None c).After-position in
+    sym (after_none (split a.e a.s.now) a.places.now (sym at ∙ c.in-None.is))

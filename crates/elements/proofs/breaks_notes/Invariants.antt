@@ -1,5 +1,5 @@
 -- `elements::breaks_notes` meets its contract.
-use Rattle.std.proofs.Common.{◌≡◌, ◌-◌, length, drop}
+use Rattle.std.proofs.Common.{◌≡◌, drop}
 use Rattle.rules.specs.Base.{any}
 use Rattle.rules.specs.Cutting.{split}
 use Rattle.tables.specs.Rows.{syntax_in}
@@ -8,6 +8,3 @@ use Rattle.elements.proofs.breaks_notes.Given as goal
 
 abbrev pub invariant-loop-k : goal.invariant-loop-k
 invariant-loop-k l = any (breaks l.present (split l.e l.s) l.n) (syntax_in (drop l.from l.guide)) ≡ any (breaks l.present (split l.e l.s) l.n) (syntax_in (drop l.k l.guide))
-
-abbrev pub decreases-loop-k : goal.decreases-loop-k
-decreases-loop-k l = length l.guide - l.k

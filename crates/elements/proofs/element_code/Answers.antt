@@ -1,24 +1,14 @@
 -- `elements::element_code` meets its contract.
-use Rattle.std.proofs.Common.{sym, ◌∙◌}
+use Rattle.std.proofs.Common.{arith, rules, tests}
+use Rattle.std.proofs.lemmas.Bool.Decides.{nat_tests}
 use Rattle.tables.specs.Reading.{row_at}
-use Rattle.elements.proofs.Codes.{code_empty, code_bytes, code_value}
+use Rattle.elements.proofs.Codes.{code_empty, code_else}
 use Rattle.elements.proofs.element_code.Goals as goal
 
-pub returns-then-e-eq0 : goal.returns-then-e-eq0
-returns-then-e-eq0 c =
-    let a = c.args in
-    c.empty_code.ensures ∙ sym (code_empty a.d (row_at a.guide.now a.k) a.e.now c.if-e-eq0.true)
-
-pub returns-then-code-ne0 : goal.returns-then-code-ne0
-returns-then-code-ne0 c =
-    let a = c.args in
-    let bytes = c.byte_code-code.ensures in
-    bytes
-    ∙ sym (code_bytes a.d (row_at a.guide.now a.k) a.e.now c.if-e-eq0.false (λ z. c.if-code-ne0.true (bytes ∙ z)))
+pub returns-then-is_empty : goal.returns-then-is_empty
+returns-then-is_empty c = let a = c.args in grind (arith, nat_tests, code_empty a.d (row_at a.guide.now a.k) a.e.now)
 
 pub returns : goal.returns
 returns c =
     let a = c.args in
-    c.value_code.ensures
-    ∙ sym (code_value a.d (row_at a.guide.now a.k) a.e.now c.if-e-eq0.false
-    (sym c.byte_code-code.ensures ∙ c.if-code-ne0.false))
+    code_else a.d (row_at a.guide.now a.k) a.e.now (λ z. grind (arith, nat_tests)) c.byte_code.result c.byte_code.ensures c.or_else.result c.or_else.ensures (λ k. search (rules, tests))

@@ -1,12 +1,9 @@
 -- `elements::next_start` meets its contract.
-use Rattle.std.proofs.Common.{le-ltb, lt-ltb}
+use Rattle.std.proofs.Common.{arith}
+use Rattle.std.proofs.lemmas.Bool.Decides.{nat_tests}
 use Rattle.elements.specs.Checks.{next_start}
 use Rattle.elements.proofs.next_start.Goals as goal
 
-pub returns-then-end-s : goal.returns-then-end-s
-unfolding next_start
-returns-then-end-s c = rw (lt-ltb _ _ c.if-end-s.true)
-
 pub returns : goal.returns
 unfolding next_start
-returns c = rw (le-ltb _ _ c.if-end-s.false)
+returns c = grind (arith, nat_tests)

@@ -1,13 +1,8 @@
 -- `elements::repeats` meets its contract.
-use Rattle.std.proofs.Common.{true, false, sym, ◌∙◌}
-use Rattle.text.proofs.Loops.{any_step, any_end}
+use Rattle.std.proofs.Common.{rules, tests}
+use Rattle.rules.specs.Cutting.{separates_repetitions}
+use Rattle.text.proofs.Library.{any_of}
 use Rattle.elements.proofs.repeats.Goals as goal
 
-pub returns-then-separates_repetitions : goal.returns-then-separates_repetitions
-returns-then-separates_repetitions c = sym (c.loop-i.invariant ∙ any_step _ _ _ _ true c.loop-i-test.true (sym c.separates_repetitions.ensures ∙ c.if-separates_repetitions.true))
-
-pub loop-i-preserved : goal.loop-i-preserved
-loop-i-preserved c = c.loop-i.invariant ∙ any_step _ _ _ _ false c.loop-i-test.true (sym c.separates_repetitions.ensures ∙ c.if-separates_repetitions.false)
-
 pub returns : goal.returns
-returns c = sym (c.loop-i.invariant ∙ any_end _ _ _ c.loop-i-test.false)
+returns c = any_of (separates_repetitions c.args.d) c.any.ensures.ran c.iter.ensures.rest (λ x b q k. search (rules, tests))

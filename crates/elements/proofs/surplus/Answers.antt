@@ -3,10 +3,10 @@ use Rattle.std.proofs.Common.{le-ltb, lt-ltb}
 use Rattle.elements.specs.Checks as checks
 use Rattle.elements.proofs.surplus.Goals as goal
 
-pub returns-then-c-s : goal.returns-then-c-s
+pub returns-then-s-c : goal.returns-then-s-c
 unfolding checks.surplus
-returns-then-c-s c = rw (lt-ltb _ _ c.if-c-s.true)
+returns-then-s-c c = rw (le-ltb _ _ c.if-s-c.true)
 
 pub returns : goal.returns
 unfolding checks.surplus
-returns c = rw (le-ltb _ _ c.if-c-s.false)
+returns c = rw (lt-ltb _ _ c.if-s-c.false)

@@ -1,21 +1,14 @@
 -- `envelope::envelope_from` meets its contract.
-use mathlib.Core.Path.{refl, sym, ◌∙◌}
+use mathlib.Core.Path.{sym, ◌∙◌}
 use Rattle.text.proofs.Search.{find_end}
 use Rattle.envelope.proofs.Places.{until_here, until_later, until_none}
-use native.Mathlib.Omega.{arith}
 use Rattle.envelope.proofs.envelope_from.Goals as goal
-
-pub loop-at-init : goal.loop-at-init
-loop-at-init c = refl
 
 pub slice_bounds-ends_body-end : goal.slice_bounds-ends_body-end
 slice_bounds-ends_body-end c = find_end _ _ _ _ c.find-end.ensures c.loop-at-test.true
 
 pub returns-then-ends_body : goal.returns-then-ends_body
 returns-then-ends_body c = sym (c.loop-at.invariant ∙ until_here _ _ _ _ _ c.loop-at-test.true c.find-end.ensures (sym c.ends_body.ensures ∙ c.if-ends_body.true))
-
-pub overflow_add-at : goal.overflow_add-at
-overflow_add-at c = let within = find_end _ _ _ _ c.find-end.ensures c.loop-at-test.true in omega arith
 
 pub loop-at-preserved : goal.loop-at-preserved
 loop-at-preserved c = c.loop-at.invariant ∙ until_later _ _ _ _ _ c.loop-at-test.true c.find-end.ensures (sym c.ends_body.ensures ∙ c.if-ends_body.false)

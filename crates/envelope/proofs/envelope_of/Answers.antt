@@ -1,26 +1,20 @@
 -- `envelope::envelope_of` meets its contract.
-use mathlib.Core.Path.{sym, ◌∙◌}
-use Rattle.text.proofs.Search.{find_le}
-use Rattle.envelope.proofs.Places.{envelope_without, envelope_over, envelope_to}
 use native.Mathlib.Omega.{arith}
+use Rattle.text.proofs.Search.{find_le}
+use Rattle.envelope.specs.Places.{envelope_of}
 use Rattle.envelope.proofs.envelope_of.Goals as goal
 
 pub overflow_add-start : goal.overflow_add-start
-overflow_add-start c =
-    let start = c.args in
-    omega (arith, find_le start.d.terminator start.i.now 0 (omega arith), c.find-start.ensures)
+overflow_add-start c = omega (arith, find_le c.args.d.terminator c.args.i.now 0 (omega arith))
 
-pub returns-in-At : goal.returns-in-At
-returns-in-At c =
-    c.envelope_ending.ensures
-    ∙ envelope_to _ _ _ c.find-start.ensures (sym c.next_group.ensures ∙ c.in-Found.is)
-    (sym c.groups_end.ensures ∙ c.in-At.is)
+pub returns-in_err-first : goal.returns-in_err-first
+unfolding envelope_of
+returns-in_err-first c = grind arith
 
-pub returns-in-TooMany : goal.returns-in-TooMany
-returns-in-TooMany c =
-    envelope_over _ _ _ c.find-start.ensures (sym c.next_group.ensures ∙ c.in-Found.is)
-    (sym c.groups_end.ensures ∙ c.in-TooMany.is)
+pub returns-in_err-groups : goal.returns-in_err-groups
+unfolding envelope_of
+returns-in_err-groups c = grind arith
 
-pub returns-in-None : goal.returns-in-None
-returns-in-None c =
-    envelope_without _ _ _ c.find-start.ensures (sym c.next_group.ensures ∙ c.in-None.is)
+pub returns : goal.returns
+unfolding envelope_of
+returns c = grind arith

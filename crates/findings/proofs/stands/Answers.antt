@@ -1,29 +1,25 @@
 -- `findings::stands` meets its contract.
-use Rattle.std.specs.Prelude.{if◌then◌else◌}
-use mathlib.Core.Path.{◌≡◌}
-use lib.Dec.{ltb}
-use lib.ListN.{length}
-use borrow.Author.Tests.{lt-ltb, le-ltb}
+use Rattle.std.proofs.Common.{arith}
+use Rattle.std.proofs.lemmas.Bool.Decides.{nat_tests}
 use Rattle.findings.specs.Steps as steps
-use Rattle.findings.specs.declared.Standing.TheVariants.{Unlisted}
 use Rattle.findings.proofs.stands.Goals as goal
 
 pub returns-then-not-is_known : goal.returns-then-not-is_known
 unfolding steps.stands
-returns-then-not-is_known c = rw (← c.is_known.ensures, c.if-not-is_known.true)
+returns-then-not-is_known c = grind (arith, nat_tests)
 
 pub returns-then-guide-row : goal.returns-then-guide-row
 unfolding steps.stands
-returns-then-guide-row c = rw ((let found' : (let a = c.args in let k = c.reach-row.result in steps.stands a.directory.now a.guide.now a.present a.id.now ≡ (if ltb k (length a.guide.now) then steps.compared a.present k else Unlisted)) = let known = c.is_known in rw (← known.ensures, c.if-not-is_known.false, ← c.reach-row.ensures) in found'), le-ltb _ _ c.if-guide-row.true)
+returns-then-guide-row c = grind (arith, nat_tests)
 
-pub returns-then-row-present : goal.returns-then-row-present
+pub returns-in-Less : goal.returns-in-Less
 unfolding steps.stands
-returns-then-row-present c = rw ((let found' : (let a = c.args in let k = c.reach-row.result in steps.stands a.directory.now a.guide.now a.present a.id.now ≡ (if ltb k (length a.guide.now) then steps.compared a.present k else Unlisted)) = let known = c.is_known in rw (← known.ensures, c.if-not-is_known.false, ← c.reach-row.ensures) in found'), lt-ltb _ _ c.if-guide-row.false, lt-ltb _ _ c.if-row-present.true)
+returns-in-Less c = grind (arith, nat_tests)
 
-pub returns-then-present-row : goal.returns-then-present-row
+pub returns-in-Equal : goal.returns-in-Equal
 unfolding steps.stands
-returns-then-present-row c = rw ((let found' : (let a = c.args in let k = c.reach-row.result in steps.stands a.directory.now a.guide.now a.present a.id.now ≡ (if ltb k (length a.guide.now) then steps.compared a.present k else Unlisted)) = let known = c.is_known in rw (← known.ensures, c.if-not-is_known.false, ← c.reach-row.ensures) in found'), lt-ltb _ _ c.if-guide-row.false, le-ltb _ _ c.if-row-present.false, lt-ltb _ _ c.if-present-row.true)
+returns-in-Equal c = grind (arith, nat_tests)
 
-pub returns : goal.returns
+pub returns-in-Greater : goal.returns-in-Greater
 unfolding steps.stands
-returns c = rw ((let found' : (let a = c.args in let k = c.reach-row.result in steps.stands a.directory.now a.guide.now a.present a.id.now ≡ (if ltb k (length a.guide.now) then steps.compared a.present k else Unlisted)) = let known = c.is_known in rw (← known.ensures, c.if-not-is_known.false, ← c.reach-row.ensures) in found'), lt-ltb _ _ c.if-guide-row.false, le-ltb _ _ c.if-row-present.false, le-ltb _ _ c.if-present-row.false)
+returns-in-Greater c = grind (arith, nat_tests)

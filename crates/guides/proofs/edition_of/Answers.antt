@@ -8,8 +8,8 @@ returns-then-same_bytes c = rw (← c.part-edition.ensures, ← c.same_bytes.ens
 
 pub returns-then-same_bytes-2 : goal.returns-then-same_bytes-2
 unfolding edition_in
-returns-then-same_bytes-2 c = rw (← c.part-edition.ensures, ← c.same_bytes.ensures, c.if-same_bytes.false, ← c.same_bytes-2.ensures, c.if-same_bytes-2.true)
+returns-then-same_bytes-2 c = rw (← c.part-edition.ensures, ← c.same_bytes.ensures, c.if-same_bytes.false, ← c.same_bytes-else-same_bytes.ensures, c.if-same_bytes-2.true)
 
-pub returns : goal.returns
+pub returns-else-same_bytes-2 : goal.returns-else-same_bytes-2
 unfolding edition_in
-returns c = rw (← c.part-edition.ensures, ← c.same_bytes.ensures, c.if-same_bytes.false, ← c.same_bytes-2.ensures, c.if-same_bytes-2.false)
+returns-else-same_bytes-2 c = rw (← c.part-edition.ensures, ← c.same_bytes.ensures, c.if-same_bytes.false, ← c.same_bytes-else-same_bytes.ensures, c.if-same_bytes-2.false)

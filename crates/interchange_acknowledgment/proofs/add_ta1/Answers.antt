@@ -6,4 +6,4 @@ use Rattle.interchange_acknowledgment.proofs.add_ta1.Goals as goal
 pub returns : goal.returns
 unfolding ta1
 returns c =
-    end (more (more (more (more (more (begin _ c.add_bytes-n.ensures) _ (rw c.isa_field.ensures at c.add_field-n.ensures)) _ (rw c.isa_field-2.ensures at c.add_field-n-2.ensures)) _ (rw c.isa_field-3.ensures at c.add_field-n-3.ensures)) _ (rw c.verdict.ensures at c.add_single-n.ensures)) _ c.add_fixed-n.ensures) c.add_byte.ensures
+    end (more (more (more (more (more (begin _ c.add-n.ensures) _ (rw c.isa_field.ensures at c.add_field-n.ensures)) _ (rw c.isa_field-2.ensures at c.add_field-n-2.ensures)) _ (rw c.isa_field-3.ensures at c.add_field-n-3.ensures)) _ (rw c.verdict.ensures at c.add_field-n-4.ensures)) _ (rw c.number.ensures at c.add_field-n-5.ensures)) c.add.ensures

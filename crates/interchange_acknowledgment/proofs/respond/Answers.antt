@@ -7,5 +7,5 @@ returns-then-out-lt-LENGTH c = too_long _ _ c.requires.0 _ c.if-out-lt-LENGTH.tr
 
 pub returns : goal.returns
 returns c =
-    written _ _ c.requires.0 c.requires.1 (rw c.check_envelope.ensures at c.note_code-note.ensures) c.if-out-lt-LENGTH.false
+    written _ _ c.requires.0 c.requires.1 c.note_code-note.ensures c.if-out-lt-LENGTH.false
     c.add_isa-n.ensures c.add_ta1-n.ensures c.add_iea.ensures

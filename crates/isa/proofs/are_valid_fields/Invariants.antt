@@ -1,5 +1,4 @@
 -- `isa::are_valid_fields` meets its contract.
-use Prim.Native.Nat.{◌-◌}
 use mathlib.Core.Path.{◌≡◌}
 use lib.Seq.{slice}
 use Rattle.rules.specs.Base.{all}
@@ -8,6 +7,3 @@ use Rattle.isa.proofs.are_valid_fields.Given as goal
 
 abbrev pub invariant-loop-n : goal.invariant-loop-n
 invariant-loop-n l = all (all (valid l.d)) (slice l.from l.to (isa l.i)) ≡ all (all (valid l.d)) (slice l.n l.to (isa l.i))
-
-abbrev pub decreases-loop-n : goal.decreases-loop-n
-decreases-loop-n l = l.to - l.n

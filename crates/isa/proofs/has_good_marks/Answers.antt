@@ -2,10 +2,10 @@
 use Rattle.rules.specs.Cutting.{marks}
 use Rattle.isa.proofs.has_good_marks.Goals as goal
 
-pub returns-in-Nothing : goal.returns-in-Nothing
+pub returns-in-None : goal.returns-in-None
 unfolding marks
-returns-in-Nothing c = rw c.in-Nothing.is c.are_good_marks.ensures
+returns-in-None c = rw c.in-None.is c.are_good_marks.ensures
 
-pub returns-in-By : goal.returns-in-By
+pub returns-in-Some : goal.returns-in-Some
 unfolding marks
-returns-in-By c = rw c.in-By.is c.are_good_marks-in-By.ensures
+returns-in-Some c = rw c.in-Some.is c.are_good_marks-in-Some.ensures

@@ -1,5 +1,5 @@
 -- `isa::repetition` meets its contract.
-use mathlib.Core.Path.{sym, ◌∙◌}
+use Rattle.std.proofs.Common.{sym, ◌∙◌}
 use borrow.Author.Tests.{eq-eqb, ne_eqb}
 use Rattle.rules.specs.Cutting.{repetition_in}
 use Rattle.text.proofs.Loops.{and_false}
@@ -16,9 +16,9 @@ returns-then-knows_repetition c =
       ne_eqb _ 85 c.if-isa11-ne85.true,
     )
 
-pub returns : goal.returns
+pub returns-else-isa11-ne85 : goal.returns-else-isa11-ne85
 unfolding repetition_in
-returns c =
+returns-else-isa11-ne85 c =
     elim c.else-isa11-ne85.branch [
       | else-isa11-ne85-via-then-isa11-ne85+else-knows_repetition w ↦ rw (← w.isa_field.ensures, sym w.knows_repetition.ensures ∙ w.if-knows_repetition.false)
       | else-isa11-ne85-via-else-isa11-ne85 w ↦ rw (← c.byte_at-isa11.ensures, eq-eqb _ 85 w.if-isa11-ne85.false, and_false _)

@@ -1,10 +1,19 @@
 -- `look::go_on` meets its contract.
 use mathlib.Core.Path.{sym, ◌∙◌}
 use native.Mathlib.Omega.{arith}
+use Prim.Native.Nat.{◌+◌, ◌≤◌}
+use lib.ListN.{length}
 use borrow.Author.Tests.{le-ltb}
 use Rattle.look.specs.Looking.{step_at}
 use Rattle.look.proofs.Within.{id_ends, id_length, end_within, step_odd, step_faulty, step_clean}
 use Rattle.look.proofs.go_on.Goals as goal
+use Rattle.look.proofs.go_on.Goals.{In_ok-passed}
+
+-- the segment that is passed ends within the bytes
+within : (c : In_ok-passed) → c.args.c.at + c.in_ok-passed.passed.length ≤ length c.args.body.now
+within c =
+    let s = c.args in
+    end_within s.body.now s.c.at _ _ _ _ (omega arith) c.id_end-end.ensures (sym c.pass.ensures ∙ c.in_ok-passed.was)
 
 pub returns-then-body-c : goal.returns-then-body-c
 unfolding step_at
@@ -21,31 +30,23 @@ pass-requires c =
     id_ends s.body.now s.c.at _ c.id_end-end.ensures
 
 pub overflow_add-c : goal.overflow_add-c
-overflow_add-c c =
-    let s = c.args in
-    let l = end_within s.body.now s.c.at _ _ _ _ (omega arith) c.id_end-end.ensures (sym c.pass.ensures ∙ c.in-Clean.is) in
-    omega arith
+overflow_add-c c = omega (arith, within (goal.at.overflow_add-c c).In_ok-passed)
 
-pub overflow_add-c-in-Clean : goal.overflow_add-c-in-Clean
-overflow_add-c-in-Clean c =
-    let s = c.args in
-    let l = end_within s.body.now s.c.at _ _ _ _ (omega arith) c.id_end-end.ensures (sym c.pass.ensures ∙ c.in-Clean.is) in
-    omega arith
+pub overflow_add-c-2 : goal.overflow_add-c-2
+overflow_add-c-2 c = omega (arith, within (goal.at.overflow_add-c-2 c).In_ok-passed)
 
-pub returns-in-Odd : goal.returns-in-Odd
-returns-in-Odd c =
+pub returns-in_err-turn : goal.returns-in_err-turn
+returns-in_err-turn c =
     let s = c.args in
-    sym (step_odd _ _ _ s.body.now s.c c.if-body-c.false c.id_end-end.ensures (sym c.turn_on.ensures ∙ c.in-Odd.is))
+    c.from_residual.ensures ∙ sym (step_odd _ _ _ s.body.now s.c c.if-body-c.false c.id_end-end.ensures (sym c.turn_on.ensures ∙ c.in_err-turn.was))
 
-pub returns-in-Faulty : goal.returns-in-Faulty
-returns-in-Faulty c =
+pub returns-in_err-passed : goal.returns-in_err-passed
+returns-in_err-passed c =
     let s = c.args in
-    let turn = sym c.turn_on.ensures ∙ c.in-At.is in
-    sym (step_faulty _ _ _ s.body.now s.c c.if-body-c.false c.id_end-end.ensures turn (sym c.pass.ensures ∙ c.in-Faulty.is))
+    c.from_residual-in_err-passed.ensures
+    ∙ sym (step_faulty _ _ _ s.body.now s.c c.if-body-c.false c.id_end-end.ensures (sym c.turn_on.ensures ∙ c.in_ok-turn.was) (sym c.pass.ensures ∙ c.in_err-passed.was))
 
-pub returns-in-Clean : goal.returns-in-Clean
-returns-in-Clean c =
+pub returns : goal.returns
+returns c =
     let s = c.args in
-    let turn = sym c.turn_on.ensures ∙ c.in-At.is in
-    let clean = sym c.pass.ensures ∙ c.in-Clean.is in
-    c.after.ensures ∙ sym (step_clean _ _ _ s.body.now s.c c.if-body-c.false c.id_end-end.ensures turn clean)
+    c.after.ensures ∙ sym (step_clean _ _ _ s.body.now s.c c.if-body-c.false c.id_end-end.ensures (sym c.turn_on.ensures ∙ c.in_ok-turn.was) (sym c.pass.ensures ∙ c.in_ok-passed.was))

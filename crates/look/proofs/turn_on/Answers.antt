@@ -2,14 +2,14 @@
 use Rattle.look.specs.Looking.{turn_on}
 use Rattle.look.proofs.turn_on.Goals as goal
 
-pub returns-then-is_entry : goal.returns-then-is_entry
+pub returns-in-Some : goal.returns-in-Some
 unfolding turn_on
-returns-then-is_entry c = rw (← c.next_due.ensures, c.in-Nothing.is, ← c.is_entry.ensures, c.if-is_entry.true, c.again.ensures)
+returns-in-Some c = rw (← c.next_due.ensures, c.in-Some.is)
 
-pub returns-in-Row : goal.returns-in-Row
+pub returns-in-None : goal.returns-in-None
 unfolding turn_on
-returns-in-Row c = rw (← c.next_due.ensures, c.in-Row.is)
+returns-in-None c = rw (← c.next_due.ensures, c.in-None.is, ← c.is_entry.ensures, c.if-is_entry.true) c.again.ensures
 
-pub returns-else-is_entry : goal.returns-else-is_entry
+pub returns-in-None-2 : goal.returns-in-None-2
 unfolding turn_on
-returns-else-is_entry c = rw (← c.next_due.ensures, c.in-Nothing.is, ← c.is_entry.ensures, c.if-is_entry.false)
+returns-in-None-2 c = rw (← c.next_due.ensures, c.in-None-2.is, ← c.is_entry.ensures, c.if-is_entry.false)

@@ -1,5 +1,5 @@
 -- `look::valid_bytes` meets its contract.
-use mathlib.Core.Path.{◌≡◌, refl, sym, ◌∙◌}
+use mathlib.Core.Path.{◌≡◌, refl, ◌∙◌}
 use mathlib.Core.Bool.{Bool}
 use mathlib.Core.List.{List}
 use Prim.Native.Nat.{ℕ, ◌+◌, ◌<◌}
@@ -7,7 +7,7 @@ use native.Mathlib.Nat.{zero-add}
 use native.Mathlib.Numerals.{add-one}
 use native.Mathlib.Omega.{arith}
 use lib.ListN.{length, set, take, length-set}
-use lib.Seq.{take-suc-set, take_all}
+use lib.Seq.{take-suc-set}
 use Rattle.rules.specs.Cutting.{valid}
 use Rattle.rules.specs.declared.Delimiters.{Delimiters}
 use Rattle.look.specs.Bytes.{answers_from}
@@ -21,15 +21,9 @@ written d table b answer h e q = rw (add-one, answers_more d 0 b, zero-add, ← 
 
 pub loop-b-init : goal.loop-b-init
 unfolding answers_from
-loop-b-init c = (refl, omega arith, refl)
+loop-b-init c = (refl, refl)
 
 pub loop-b-preserved : goal.loop-b-preserved
 loop-b-preserved c =
     let l = c.loop-b in
-    (length-set l.valid l.b c.is_valid.result ∙ l.invariant.0, omega arith, written _ l.valid l.b _ (rw l.invariant.0 c.loop-b-test.true) l.invariant.2 c.is_valid.ensures)
-
-pub returns : goal.returns
-returns c =
-    let l = c.loop-b in
-    let b : l.b ≡ 256 = omega (arith, l.invariant.1, c.loop-b-test.false) in
-    sym (take_all 256 l.valid (omega (arith, l.invariant.0))) ∙ rw b at l.invariant.2
+    (length-set l.valid l.b c.is_valid.result ∙ l.invariant.0, written _ l.valid l.b _ (omega (arith, l.invariant.0)) l.invariant.1 c.is_valid.ensures)

@@ -5,5 +5,4 @@ use Rattle.notes.proofs.add_ak4.Goals as goal
 
 pub returns : goal.returns
 unfolding ak4
-returns c =
-    end (more (more (more (more (begin _ c.add_bytes-n.ensures) _ c.add_count-n.ensures) _ c.add_optional-n.ensures) _ c.add_count-n-2.ensures) _ (rw c.part-echo.ensures at c.add_trailing-n.ensures)) c.add_byte.ensures
+returns c = end (more (more (more (more (begin _ c.add-n.ensures) _ c.add_field-n.ensures) _ c.add_optional-n.ensures) _ c.add_field-n-2.ensures) _ (rw c.part-echo.ensures at c.add_trailing-n.ensures)) c.add.ensures

@@ -1,12 +1,8 @@
 -- `notes::add_codes` meets its contract.
-use Rattle.writing.proofs.Laws.{kept}
-use mathlib.Core.Path.{◌∙◌, sym}
+use mathlib.Core.Path.{sym}
 use Rattle.notes.proofs.Laws.{findings_two}
 use Rattle.notes.proofs.Sofar.{adds_more, adds_same}
 use Rattle.notes.proofs.add_codes.Goals as goal
-
-pub shape_of-out : goal.shape_of-out
-shape_of-out c = kept c.add_finding.ensures.text ∙ kept c.add_finding-told.ensures.text
 
 pub returns : goal.returns
 returns c =

@@ -1,23 +1,16 @@
 -- `notes::add_findings` meets its contract.
 use Rattle.notes.proofs.Laws.{weight_less, found_more}
-use Rattle.notes.proofs.Sofar.{begin, onward, ends}
-use native.Mathlib.Omega.{arith}
+use Rattle.notes.proofs.Sofar.{onward, ends}
 use Rattle.notes.proofs.add_findings.Goals as goal
 
-pub loop-next-init : goal.loop-next-init
-loop-next-init c = begin _ _ _ _ (omega arith) (omega arith) (omega arith)
+pub loop-rest-smaller : goal.loop-rest-smaller
+loop-rest-smaller c =
+    let a = c.args in rw c.next_found-rest.ensures (weight_less a.d a.s.now a.guide.now c.in-Some.is)
 
-pub loop-next-smaller : goal.loop-next-smaller
-loop-next-smaller c =
-    let a = c.args in rw c.next_found-next.ensures (weight_less a.d a.s.now a.guide.now c.in-Codes.is)
-
-pub loop-next-preserved : goal.loop-next-preserved
-loop-next-preserved c =
+pub loop-rest-preserved : goal.loop-rest-preserved
+loop-rest-preserved c =
     let a = c.args in
-    rw c.next_found-next.ensures (onward c.loop-next.invariant (found_more a.d a.s.now a.guide.now c.in-Codes.is) c.add_codes-sum.ensures)
+    rw c.next_found-rest.ensures (onward c.loop-rest.invariant (found_more a.d a.s.now a.guide.now c.in-Some.is) c.add_codes-sum.ensures)
 
-pub shape_of-out-in-Nothing : goal.shape_of-out-in-Nothing
-shape_of-out-in-Nothing c = c.loop-next.invariant.stays
-
-pub returns-in-Nothing : goal.returns-in-Nothing
-returns-in-Nothing c = let a = c.args in ends c.loop-next.invariant (rw c.in-Nothing.is)
+pub returns : goal.returns
+returns c = let a = c.args in ends c.loop-rest.invariant (rw c.in_default.is)

@@ -1,16 +1,10 @@
 -- `notes::add_segment` meets its contract.
 use Prim.Native.Nat.{◌<◌}
 use lib.ListN.{length}
-use mathlib.Core.Path.{◌∙◌}
-use Rattle.writing.proofs.Laws.{kept}
 use Rattle.notes.proofs.Laws.{found_all, found_any, taken_written}
 use Rattle.notes.proofs.Sofar.{adds_more, adds_same}
 use native.Mathlib.Omega.{arith}
 use Rattle.notes.proofs.add_segment.Goals as goal
-
-pub shape_of-out : goal.shape_of-out
-shape_of-out c =
-    kept c.add_findings.ensures.text ∙ kept c.add_segment_line-told.ensures.text ∙ kept c.add_missing-told.ensures.text
 
 pub returns : goal.returns
 returns c =

@@ -1,12 +1,12 @@
 -- `notes::found_in` meets its contract.
-use mathlib.Core.Path.{sym, ◌∙◌}
+use Rattle.std.proofs.Common.{arith}
 use Rattle.notes.specs.Lines.{found_by}
 use Rattle.notes.proofs.found_in.Goals as goal
 
 pub returns-then-is_checked : goal.returns-then-is_checked
 unfolding found_by
-returns-then-is_checked c = rw (sym c.is_checked.ensures ∙ c.if-is_checked.true, c.first_found.ensures)
+returns-then-is_checked c = grind arith
 
-pub returns : goal.returns
+pub returns-else-is_checked : goal.returns-else-is_checked
 unfolding found_by
-returns c = rw (sym c.is_checked.ensures ∙ c.if-is_checked.false)
+returns-else-is_checked c = grind arith

@@ -4,13 +4,8 @@ use mathlib.Core.List.{map, map-append, append-nil}
 use Rattle.findings.specs.Events.{written}
 use Rattle.findings.specs.Remaining.{taken_events}
 use Rattle.findings.proofs.Told.{step_segment, step_fewer, step_trailer, step_done}
-use Rattle.writing.proofs.Laws.{kept}
-use Rattle.notes.proofs.Sofar.{begin, onward, ends, tells}
-use native.Mathlib.Omega.{arith}
+use Rattle.notes.proofs.Sofar.{onward, ends, tells}
 use Rattle.notes.proofs.put_notes.Goals as goal
-
-pub loop-taken-init : goal.loop-taken-init
-loop-taken-init c = rw c.start-w.ensures (begin _ _ _ _ (omega arith) (omega arith) (omega arith))
 
 pub loop-taken-smaller : goal.loop-taken-smaller
 loop-taken-smaller c =
@@ -23,17 +18,11 @@ loop-taken-preserved c =
     let told = step_segment a.set.now a.d a.directory.now a.guide.now a.closed c.loop-taken.w (sym c.next.ensures ∙ c.in-Segment.is) in
     onward c.loop-taken.invariant (ap (map written) told ∙ map-append written (taken_events a.d a.guide.now a.set.now c.in-Segment.taken) _) c.add_segment-told.ensures
 
-pub shape_of-out-in-Trailer : goal.shape_of-out-in-Trailer
-shape_of-out-in-Trailer c = kept c.add_missing.ensures.text ∙ c.loop-taken.invariant.stays
-
 pub returns-in-Trailer : goal.returns-in-Trailer
 returns-in-Trailer c =
     let a = c.args in
     let told = step_trailer a.set.now a.d a.directory.now a.guide.now a.closed c.loop-taken.w (sym c.next.ensures ∙ c.in-Trailer.is) in
     tells (ends (onward c.loop-taken.invariant (ap (map written) told ∙ sym (append-nil _)) c.add_missing.ensures) refl)
-
-pub shape_of-out-in-Done : goal.shape_of-out-in-Done
-shape_of-out-in-Done c = c.loop-taken.invariant.stays
 
 pub returns-in-Done : goal.returns-in-Done
 returns-in-Done c =

@@ -6,4 +6,4 @@ use Rattle.response_envelope.proofs.add_ge.Goals as goal
 pub returns : goal.returns
 unfolding ge_out
 returns c =
-    end (more (more (begin _ c.add_bytes-n.ensures) _ c.add_count-n.ensures) _ c.add_count-n-2.ensures) c.add_byte.ensures
+    end (more (more (begin _ c.add-n.ensures) _ c.add_field-n.ensures) _ c.add_field-n-2.ensures) c.add.ensures

@@ -6,4 +6,4 @@ use Rattle.response_envelope.proofs.add_gs.Goals as goal
 pub returns : goal.returns
 unfolding gs_out
 returns c =
-    end (more (more (begin _ c.add_bytes-n.ensures) _ c.add_gs_parties-n.ensures) _ c.add_gs_stamp-n.ensures) c.add_byte.ensures
+    end (more (more (begin _ c.add-n.ensures) _ c.add_gs_parties-n.ensures) _ c.add_gs_stamp-n.ensures) c.add.ensures

@@ -6,4 +6,4 @@ use Rattle.response_envelope.proofs.add_isa.Goals as goal
 pub returns : goal.returns
 unfolding isa_out
 returns c =
-    end (more (more (more (more (more (more (more (begin _ c.add_bytes-n.ensures) _ c.add_no_information-n.ensures) _ c.add_no_information-n-2.ensures) _ c.add_isa_parties-n.ensures) _ c.add_isa_stamp-n.ensures) _ c.add_field-n.ensures) _ (rw c.isa_field.ensures at c.add_field-n-2.ensures)) _ c.add_single-n.ensures) c.add_byte.ensures
+    end (more (more (more (more (more (more (more (begin _ c.add-n.ensures) _ c.add_no_information-n.ensures) _ c.add_no_information-n-2.ensures) _ c.add_isa_parties-n.ensures) _ c.add_isa_stamp-n.ensures) _ c.add_field-n.ensures) _ (rw c.isa_field.ensures at c.add_field-n-2.ensures)) _ c.add_field-n-3.ensures) c.add.ensures

@@ -6,24 +6,24 @@ use Rattle.segments.proofs.Fields.{field_first, field_at, field_next, field_past
 use native.Mathlib.Omega.{arith}
 use Rattle.segments.proofs.field.Goals as goal
 
-pub loop-i-init : goal.loop-i-init
-loop-i-init c = (omega arith, omega arith, field_first)
+pub loop-init : goal.loop-init
+loop-init c = (omega arith, field_first)
 
 pub returns-then-s-end : goal.returns-then-s-end
 returns-then-s-end c =
-    let next = field_next c.loop-i.invariant.2 c.find_near-end.ensures in
+    let next = field_next c.loop.invariant.1 c.find_near-end.ensures in
     sym (field_past next (omega arith) c.args.n (omega arith))
 
-pub loop-i-preserved : goal.loop-i-preserved
-loop-i-preserved c = (omega arith, omega arith, field_next c.loop-i.invariant.2 c.find_near-end.ensures)
+pub loop-preserved : goal.loop-preserved
+loop-preserved c = (omega arith, field_next c.loop.invariant.1 c.find_near-end.ensures)
 
 pub slice_bounds-result-end-2 : goal.slice_bounds-result-end-2
 slice_bounds-result-end-2 c =
-    let l = c.loop-i in
+    let l = c.loop in
     omega (arith, find_le c.args.e c.args.s.now l.at l.invariant.0, c.find_near-end-2.ensures)
 
 pub returns : goal.returns
 returns c =
-    let l = c.loop-i in
-    let reached : c.args.n ≡ l.i = omega arith in
-    sym (ap (cutting.field (cutting.split c.args.e c.args.s.now)) reached ∙ field_at l.invariant.2 c.find_near-end-2.ensures)
+    let l = c.loop in
+    let reached : c.args.n ≡ l.counter = omega arith in
+    sym (ap (cutting.field (cutting.split c.args.e c.args.s.now)) reached ∙ field_at l.invariant.1 c.find_near-end-2.ensures)

@@ -1,11 +1,8 @@
 -- `segments::field` meets its contract.
-use Prim.Native.Nat.{◌-◌, ◌≤◌}
+use Prim.Native.Nat.{◌≤◌}
 use lib.ListN.{length}
 use Rattle.segments.proofs.Fields.{FieldAt}
 use Rattle.segments.proofs.field.Given as goal
 
-abbrev pub invariant-loop-i : goal.invariant-loop-i
-invariant-loop-i l = (l.at ≤ length l.s) × (l.i ≤ l.n) × FieldAt l.e l.s l.i l.at
-
-abbrev pub decreases-loop-i : goal.decreases-loop-i
-decreases-loop-i l = l.n - l.i
+abbrev pub invariant-loop : goal.invariant-loop
+invariant-loop l = (l.at ≤ length l.s) × FieldAt l.e l.s l.counter l.at

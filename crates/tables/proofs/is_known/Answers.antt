@@ -1,14 +1,12 @@
 -- `tables::is_known` meets its contract.
-use mathlib.Core.Path.{sym, ◌∙◌}
-use mathlib.Core.Bool.{true, false}
-use Rattle.tables.proofs.Numbers.{known_step, known_end}
+use Rattle.std.proofs.Common.{◌∙◌, sym, rules, tests}
+use Rattle.rules.specs.Base.{same}
+use Rattle.tables.specs.Rows.{filled}
+use Rattle.text.proofs.Library.{any_of}
+use Rattle.tables.proofs.Numbers.{known_any}
 use Rattle.tables.proofs.is_known.Goals as goal
 
-pub returns-then-is_named : goal.returns-then-is_named
-returns-then-is_named c = sym (c.loop-k.invariant ∙ known_step _ _ _ true c.loop-k-test.true (sym c.is_named.ensures ∙ c.if-is_named.true))
-
-pub loop-k-preserved : goal.loop-k-preserved
-loop-k-preserved c = c.loop-k.invariant ∙ known_step _ _ _ false c.loop-k-test.true (sym c.is_named.ensures ∙ c.if-is_named.false)
-
 pub returns : goal.returns
-returns c = sym (c.loop-k.invariant ∙ known_end _ _ _ c.loop-k-test.false)
+returns c =
+    let a = c.args in
+    any_of (λ row. same a.id.now (filled row)) c.any.ensures.ran c.iter.ensures.rest (λ x b q k. search (rules, tests)) ∙ sym (known_any a.id.now a.directory.now)

@@ -1,13 +1,10 @@
 -- `tables::named` meets its contract.
-use mathlib.Core.Path.{sym, ◌∙◌}
-use Rattle.text.proofs.Search.{index_here, index_later, index_none}
+use Rattle.std.proofs.Common.{◌∙◌, ap, eqb, length, unwrap_or, rules, tests}
+use Rattle.text.proofs.Library.{position_of, position-or}
 use Rattle.tables.proofs.named.Goals as goal
 
-pub returns-then-numbers-i-eq0 : goal.returns-then-numbers-i-eq0
-returns-then-numbers-i-eq0 c = sym (c.loop-i.invariant ∙ index_here _ _ _ c.loop-i-test.true c.if-numbers-i-eq0.true)
-
-pub loop-i-preserved : goal.loop-i-preserved
-loop-i-preserved c = c.loop-i.invariant ∙ index_later _ _ _ c.loop-i-test.true c.if-numbers-i-eq0.false
-
 pub returns : goal.returns
-returns c = sym (c.loop-i.invariant ∙ index_none _ _ _ c.loop-i-test.false)
+returns c =
+    let numbers = c.args.numbers.now in
+    let found = position_of (λ n. eqb n 0) c.position.ensures.ran c.iter.ensures.rest (λ x b q k. search (rules, tests)) in
+    c.unwrap_or.ensures ∙ ap (λ o. unwrap_or o (length numbers)) found ∙ position-or (λ n. eqb n 0) numbers

@@ -1,5 +1,5 @@
 -- `tables::next_due` meets its contract.
-use Rattle.std.specs.Prelude.{if◌then◌else◌}
+use Rattle.std.specs.Prelude.{if◌then◌else◌, Some, None}
 use Prim.Native.Nat.{ℕ}
 use mathlib.Core.Path.{◌≡◌, sym, ◌∙◌}
 use mathlib.Core.Bool.{Bool, true, false}
@@ -8,14 +8,13 @@ use lib.ListN.{get_or, get_or-eq_default}
 use Rattle.rules.specs.Base.{Bytes}
 use Rattle.text.specs.Text.{next_where}
 use Rattle.tables.specs.Reading.{Guide, is_entry_row, next_due}
-use Rattle.tables.specs.declared.Due.TheVariants.{Row, Nothing}
 use Rattle.text.proofs.Where.{next_here, next_later, next_none}
 use Rattle.tables.proofs.next_due.Invariants.{stops}
 use Rattle.tables.proofs.next_due.Goals as goal
 
 -- what stands there decides
 due_at : (rows : Guide) (from : ℕ) (id : Bytes) {row : ℕ} (b : Bool) → next_where (stops id) rows from ≡ row → is_entry_row id (get_or rows row []) ≡ b
-    → next_due rows from id ≡ (if b then Row row else Nothing)
+    → next_due rows from id ≡ (if b then Some row else None)
 unfolding next_due
 due_at rows from id b q e = rw (q, e)
 

@@ -1,9 +1,8 @@
 -- `tables::next_due` meets its contract.
-use Prim.Native.Nat.{ℕ, ◌-◌}
+use Prim.Native.Nat.{ℕ}
 use mathlib.Core.Path.{◌≡◌}
 use mathlib.Core.Bool.{Bool, ◌||◌}
 use mathlib.Core.List.{List}
-use lib.ListN.{length}
 use Rattle.rules.specs.Base.{Bytes}
 use Rattle.text.specs.Text.{next_where}
 use Rattle.tables.specs.Reading.{is_entry_row, is_mandatory_row}
@@ -15,6 +14,3 @@ stops id r = is_entry_row id r || is_mandatory_row r
 
 abbrev pub invariant-loop-k : goal.invariant-loop-k
 invariant-loop-k l = next_where (stops l.id) l.guide l.from ≡ next_where (stops l.id) l.guide l.k
-
-abbrev pub decreases-loop-k : goal.decreases-loop-k
-decreases-loop-k l = length l.guide - l.k

@@ -1,24 +1,25 @@
 -- `tables::spells` meets its contract.
-use mathlib.Core.Path.{sym, ◌∙◌, ap}
-use mathlib.Core.Bool.{true, false}
-use borrow.Author.Tests.{ne_eqb, eq-eqb}
+use mathlib.Core.Path.{◌≡◌, sym, ap, ◌∙◌}
+use mathlib.Core.Bool.{true}
 use lib.Dec.{eqb}
-use Prim.Native.Nat.{ℕ}
-use Rattle.tables.proofs.Numbers.{spell_short, spell_step, spell_end}
+use lib.ListN.{length, get_or}
 use native.Mathlib.Omega.{arith}
+use borrow.Author.Tests.{eq-eqb}
+use Rattle.tables.proofs.Numbers.{spell_apart, spell_step, spell_end}
 use Rattle.tables.proofs.spells.Goals as goal
+use Rattle.tables.proofs.spells.Goals.{then-number-eq0-via-then-number-eq0, then-number-eq0-via-else-number-eq0+then-number-from}
 
 pub returns-then-number-eq0 : goal.returns-then-number-eq0
-returns-then-number-eq0 c = sym (c.loop-i.invariant ∙ spell_short _ _ _ c.loop-i-test.true (sym c.number_at-number.ensures ∙ c.if-number-eq0.true))
-
-pub overflow_cast-bytes : goal.overflow_cast-bytes
-overflow_cast-bytes c = omega (arith, c.shared_slice_known-in-loop-i-1.given c.loop-i.i)
-
-pub returns-then-number-bytes : goal.returns-then-number-bytes
-returns-then-number-bytes c = sym (c.loop-i.invariant ∙ spell_step _ _ _ false c.loop-i-test.true (λ e. c.if-number-eq0.false (c.number_at-number.ensures ∙ e)) (ne_eqb _ _ (λ e. c.if-number-bytes.true (c.number_at-number.ensures ∙ e))))
+returns-then-number-eq0 c = sym (c.loop-i.invariant ∙ spell_apart _ _ _ c.loop-i-test.true (λ e. elim c.then-number-eq0.branch [
+  | then-number-eq0-via-then-number-eq0 w ↦ omega arith
+  | then-number-eq0-via-else-number-eq0+then-number-from w ↦ absurd (omega arith)
+]))
 
 pub loop-i-preserved : goal.loop-i-preserved
-loop-i-preserved c = c.loop-i.invariant ∙ spell_step _ _ _ true c.loop-i-test.true (λ e. c.if-number-eq0.false (c.number_at-number.ensures ∙ e)) (eq-eqb _ _ (sym c.number_at-number.ensures ∙ c.if-number-bytes.false))
+loop-i-preserved c =
+    c.loop-i.invariant ∙ spell_step _ _ _ true c.loop-i-test.true (λ e. c.if-number-eq0.false (c.number_at-number.ensures ∙ e)) (eq-eqb _ _ (omega arith))
 
 pub returns : goal.returns
-returns c = ap (λ (n : ℕ). eqb n 0) c.number_at.ensures ∙ sym (c.loop-i.invariant ∙ spell_end _ _ _ c.loop-i-test.false)
+returns c =
+    let i : c.loop-i.i ≡ length c.args.bytes.now = omega (arith, c.loop-i.auto.i-end) in
+    ap (λ n. eqb n 0) c.number_at.ensures ∙ sym (c.loop-i.invariant ∙ spell_end _ _ _ c.loop-i-test.false ∙ ap (λ n. eqb (get_or c.args.numbers.now n 0) 0) i)

@@ -1,13 +1,8 @@
 -- `text::all_digits` meets its contract.
-use mathlib.Core.Path.{sym, ◌∙◌}
-use Rattle.text.proofs.Loops.{all_step, all_end}
+use Rattle.std.proofs.Common.{rules, tests}
+use Rattle.rules.specs.Base.{is_digit}
+use Rattle.text.proofs.Library.{all_of}
 use Rattle.text.proofs.all_digits.Goals as goal
 
-pub returns-then-not-is_digit : goal.returns-then-not-is_digit
-returns-then-not-is_digit c = sym (c.loop-i.invariant ∙ all_step _ _ _ _ _ c.loop-i-test.true (sym c.is_digit.ensures ∙ c.if-not-is_digit.true))
-
-pub loop-i-preserved : goal.loop-i-preserved
-loop-i-preserved c = c.loop-i.invariant ∙ all_step _ _ _ _ _ c.loop-i-test.true (sym c.is_digit.ensures ∙ c.if-not-is_digit.false)
-
 pub returns : goal.returns
-returns c = sym (c.loop-i.invariant ∙ all_end _ _ _ c.loop-i-test.false)
+returns c = all_of is_digit c.all.ensures.ran c.iter.ensures.rest (λ x b q k. search (rules, tests))

@@ -1,56 +1,35 @@
 -- `text::count_in` meets its contract.
-use mathlib.Core.Path.{◌≡◌, refl, sym, ap, ◌∙◌}
-use mathlib.Core.Bool.{true, false}
-use native.Mathlib.Omega.{arith}
-use borrow.Author.Rules.{rules}
-use lib.ListN.{length}
+use Rattle.std.proofs.Common.{sym, ap, ◌∙◌, arith, Some, ◌≡◌, true, min, length}
 use Rattle.rules.specs.Base.{between}
-use Rattle.rules.specs.Numbers as numbers
-use Rattle.text.specs.declared.Count.TheVariants.{Of}
-use Rattle.text.proofs.Loops.{all_step, all_end}
-use Rattle.text.proofs.Digits.{DigitAt, digit_at, value_step, value_end, below_more, below_ten, count_few, count_long, count_by}
+use Rattle.rules.specs.Numbers.{digits, count_in}
+use Rattle.text.proofs.Digits.{between_true, read_none, read_low, read_more, read_other, read_all}
 use Rattle.text.proofs.count_in.Goals as goal
+use Rattle.text.proofs.count_in.Goals.{Else-not-is_between}
+
+-- as many bytes as a count may have
+few : (c : Else-not-is_between) → between 1 (min c.args.most 10) (length c.args.s.now) ≡ true
+few c = rw (← c.min.ensures) (sym c.is_between.ensures ∙ c.if-not-is_between.false)
 
 pub returns-then-not-is_between : goal.returns-then-not-is_between
-returns-then-not-is_between c = rw (← c.at_most_ten.ensures, count_long _ _ (sym c.is_between.ensures ∙ c.if-not-is_between.true))
+unfolding count_in digits
+returns-then-not-is_between c = rw (← c.min.ensures, sym c.is_between.ensures ∙ c.if-not-is_between.true)
 
-pub loop-i-init : goal.loop-i-init
-unfolding numbers.value
-loop-i-init c = (count_few _ _ (c.args.s.now) ((let sized' : between 1 c.at_most_ten.result (length c.args.s.now) ≡ true = sym c.is_between.ensures ∙ c.if-not-is_between.false in sized')) c.at_most_ten.ensures, search rules, refl, refl)
+pub loop-b-init : goal.loop-b-init
+loop-b-init c = read_none _ (omega (arith, between_true 1 (min c.args.most 10) (length c.args.s.now) (few c)))
 
-pub returns-then-not-is_digit : goal.returns-then-not-is_digit
-returns-then-not-is_digit c =
-    let other = c.loop-i.invariant.2 ∙ all_step _ _ _ _ _ c.loop-i-test.true (sym c.is_digit.ensures ∙ c.if-not-is_digit.true) in
-    rw (← c.at_most_ten.ensures, count_by _ _ false ((let sized' : between 1 c.at_most_ten.result (length c.args.s.now) ≡ true = sym c.is_between.ensures ∙ c.if-not-is_between.false in sized')) other)
+pub returns-then-not-is_ascii_digit : goal.returns-then-not-is_ascii_digit
+unfolding count_in digits
+returns-then-not-is_ascii_digit c =
+    rw (few (goal.at.returns-then-not-is_ascii_digit c).Else-not-is_between, read_other c.loop-b.invariant c.loop-b-test.true (sym c.is_ascii_digit.ensures.value ∙ c.if-not-is_ascii_digit.true))
 
 pub overflow_mul-n : goal.overflow_mul-n
-overflow_mul-n c =
-    let l = c.loop-i in
-    omega (arith, below_ten l.n l.i l.invariant.1 (omega arith))
+overflow_mul-n c = omega (arith, read_low c.loop-b.invariant c.loop-b-test.true)
 
-pub overflow_sub-n : goal.overflow_sub-n
-overflow_sub-n c = omega (arith, (let digit' : DigitAt c.args.s.now c.loop-i.i = digit_at _ _ (sym c.is_digit.ensures ∙ c.if-not-is_digit.false) in digit'))
-
-pub overflow_cast-n : goal.overflow_cast-n
-overflow_cast-n c = omega (arith, (let digit' : DigitAt c.args.s.now c.loop-i.i = digit_at _ _ (sym c.is_digit.ensures ∙ c.if-not-is_digit.false) in digit'))
-
-pub overflow_add-n : goal.overflow_add-n
-overflow_add-n c =
-    let l = c.loop-i in
-    omega (arith, (let digit' : DigitAt c.args.s.now c.loop-i.i = digit_at _ _ (sym c.is_digit.ensures ∙ c.if-not-is_digit.false) in digit'), below_ten l.n l.i l.invariant.1 (omega arith))
-
-pub loop-i-preserved : goal.loop-i-preserved
-loop-i-preserved c =
-    let l = c.loop-i in
-    let h = c.loop-i-test.true in (
-      l.invariant.0,
-      below_more _ _ _ l.invariant.1 (omega (arith, (let digit' : DigitAt c.args.s.now c.loop-i.i = digit_at _ _ (sym c.is_digit.ensures ∙ c.if-not-is_digit.false) in digit'))),
-      l.invariant.2 ∙ all_step _ _ _ _ _ h (sym c.is_digit.ensures ∙ c.if-not-is_digit.false),
-      l.invariant.3 ∙ value_step _ _ _ h,
-    )
+pub loop-b-preserved : goal.loop-b-preserved
+loop-b-preserved c = rw c.from.ensures (read_more c.loop-b.invariant c.loop-b-test.true (sym c.is_ascii_digit.ensures.value ∙ c.if-not-is_ascii_digit.false))
 
 pub returns : goal.returns
+unfolding count_in digits
 returns c =
-    let digits = c.loop-i.invariant.2 ∙ all_end _ _ _ c.loop-i-test.false in
-    rw (← c.at_most_ten.ensures, count_by _ _ true ((let sized' : between 1 c.at_most_ten.result (length c.args.s.now) ≡ true = sym c.is_between.ensures ∙ c.if-not-is_between.false in sized')) digits)
-    (ap Of (sym (c.loop-i.invariant.3 ∙ value_end _ _ _ c.loop-i-test.false)))
+    let all = read_all c.loop-b.invariant c.loop-b-test.false in
+    rw (few (goal.at.returns c).Else-not-is_between, all.0) (ap Some (sym all.1))

@@ -1,24 +1,15 @@
 -- `text::is_text` meets its contract.
-use mathlib.Core.Path.{sym, ◌∙◌}
-use Rattle.rules.specs.Cutting.{text}
-use Rattle.text.proofs.Loops.{all_step, all_end}
+use Rattle.std.proofs.Common.{rules, tests, sym, ◌∙◌}
+use Rattle.rules.specs.Cutting.{valid, text}
+use Rattle.text.proofs.Library.{all_of}
 use Rattle.text.proofs.is_text.Goals as goal
 
-pub returns-then-not-is_between : goal.returns-then-not-is_between
+pub returns-then-is_between : goal.returns-then-is_between
 unfolding text
-returns-then-not-is_between c = rw (sym c.is_between.ensures ∙ c.if-not-is_between.true)
+returns-then-is_between c =
+    rw (sym c.is_between.ensures ∙ c.if-is_between.true)
+    (all_of (valid c.args.d) c.all.ensures.ran c.iter.ensures.rest (λ x b q k. search (rules, tests)))
 
-pub loop-i-init : goal.loop-i-init
+pub returns-else-is_between : goal.returns-else-is_between
 unfolding text
-loop-i-init c = rw (sym c.is_between.ensures ∙ c.if-not-is_between.false)
-
-pub returns-then-not-is_valid : goal.returns-then-not-is_valid
-returns-then-not-is_valid c =
-    sym (c.loop-i.invariant ∙ all_step _ _ _ _ _ c.loop-i-test.true (sym c.is_valid.ensures ∙ c.if-not-is_valid.true))
-
-pub loop-i-preserved : goal.loop-i-preserved
-loop-i-preserved c =
-    c.loop-i.invariant ∙ all_step _ _ _ _ _ c.loop-i-test.true (sym c.is_valid.ensures ∙ c.if-not-is_valid.false)
-
-pub returns : goal.returns
-returns c = sym (c.loop-i.invariant ∙ all_end _ _ _ c.loop-i-test.false)
+returns-else-is_between c = rw (sym c.is_between.ensures ∙ c.if-is_between.false) c.if-is_between.false

@@ -1,16 +1,12 @@
 -- `text::is_valid` meets its contract.
-use borrow.Author.Tests.{le-leb, lt-leb}
+use Rattle.std.proofs.Common.{arith}
 use Rattle.rules.specs.Cutting.{valid}
 use Rattle.text.proofs.is_valid.Goals as goal
 
-pub returns-then-b-lt32 : goal.returns-then-b-lt32
+pub returns-then-matches : goal.returns-then-matches
 unfolding valid
-returns-then-b-lt32 c = rw (lt-leb 32 _ c.if-b-lt32.true)
+returns-then-matches c = grind arith
 
-pub returns-then-b-gt126 : goal.returns-then-b-gt126
+pub returns-else-matches : goal.returns-else-matches
 unfolding valid
-returns-then-b-gt126 c = rw (le-leb 32 _ c.if-b-lt32.false, lt-leb _ 126 c.if-b-gt126.true)
-
-pub returns : goal.returns
-unfolding valid
-returns c = rw (le-leb 32 _ c.if-b-lt32.false, le-leb _ 126 c.if-b-gt126.false, ← c.is_mark.ensures)
+returns-else-matches c = grind arith

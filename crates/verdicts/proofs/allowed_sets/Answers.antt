@@ -1,12 +1,13 @@
 -- `verdicts::allowed_sets` meets its contract.
-use borrow.Author.Tests.{eq-eqb, ne_eqb}
+use Rattle.std.proofs.Common.{arith}
+use Rattle.std.proofs.lemmas.Grind.{common_steps}
 use Rattle.rules.specs.Base.{same}
 use Rattle.verdicts.proofs.allowed_sets.Goals as goal
 
-pub returns-then-verdict-eq-REJECTED : goal.returns-then-verdict-eq-REJECTED
+pub returns-in-Accepted : goal.returns-in-Accepted
 unfolding same
-returns-then-verdict-eq-REJECTED c = rw (eq-eqb _ _ c.if-verdict-eq-REJECTED.true)
+returns-in-Accepted c = grind (arith, common_steps)
 
-pub returns-else-verdict-eq-REJECTED : goal.returns-else-verdict-eq-REJECTED
+pub returns-in-Rejected : goal.returns-in-Rejected
 unfolding same
-returns-else-verdict-eq-REJECTED c = rw (ne_eqb _ _ c.if-verdict-eq-REJECTED.false)
+returns-in-Rejected c = grind (arith, common_steps)

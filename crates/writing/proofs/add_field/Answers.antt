@@ -3,4 +3,4 @@ use Rattle.writing.proofs.Segments.{field}
 use Rattle.writing.proofs.add_field.Goals as goal
 
 pub returns : goal.returns
-returns c = field _ c.add_byte-n.ensures c.add_bytes.ensures
+returns g c = field _ c.add-n.ensures c.add.ensures

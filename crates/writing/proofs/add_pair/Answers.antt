@@ -4,4 +4,4 @@ use Rattle.writing.proofs.add_pair.Goals as goal
 
 pub returns : goal.returns
 returns c =
-    end (more (more (begin _ c.add_bytes-n.ensures) _ c.add_field-n.ensures) _ c.add_field-n-2.ensures) c.add_byte.ensures
+    end (more (more (begin _ c.add-n.ensures) _ c.add_field-n.ensures) _ c.add_field-n-2.ensures) c.add.ensures

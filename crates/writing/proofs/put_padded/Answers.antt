@@ -1,13 +1,10 @@
 -- `writing::put_padded` meets its contract: the digits that are left, over what stands, are the whole over what was lent.
-use mathlib.Core.Path.{refl, sym, ◌∙◌}
+use mathlib.Core.Path.{sym, ◌∙◌}
 use native.Mathlib.Omega.{arith}
 use lib.ListN.{length-set}
 use Rattle.rules.proofs.Lengths.{padded_length}
 use Rattle.writing.proofs.Numbers.{padded_turn, padded_done}
 use Rattle.writing.proofs.put_padded.Goals as goal
-
-pub loop-i-init : goal.loop-i-init
-loop-i-init c = (refl, refl)
 
 pub loop-i-preserved : goal.loop-i-preserved
 loop-i-preserved c =

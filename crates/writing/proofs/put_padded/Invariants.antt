@@ -7,6 +7,3 @@ use Rattle.writing.proofs.put_padded.Given as goal
 
 abbrev pub invariant-loop-i : goal.invariant-loop-i
 invariant-loop-i l = (over (padded l.i l.rest) l.out ≡ over (padded l.w l.v) l.initial.out) × (length l.out ≡ length l.initial.out)
-
-abbrev pub decreases-loop-i : goal.decreases-loop-i
-decreases-loop-i l = l.i

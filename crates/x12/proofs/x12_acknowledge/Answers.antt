@@ -1,7 +1,7 @@
 -- `x12::x12_acknowledge` meets its contract.
+use Rattle.rules.proofs.Facts.{functional_numbered}
 use Rattle.x12.proofs.Delivered.{delivered}
-use borrow.Author.Rules.{rules}
 use Rattle.x12.proofs.x12_acknowledge.Goals as goal
 
 pub returns : goal.returns
-returns c = delivered _ _ _ c.acknowledge.ensures c.tell.ensures
+returns c = delivered _ _ _ (functional_numbered _ _) c.acknowledge.ensures c.tell.ensures

@@ -2,4 +2,4 @@
 use Rattle.acknowledgment.proofs.set_block.measure_accepted.Goals as goal
 
 pub returns : goal.returns
-returns c = rw c.joined.ensures
+returns c = rw c.saturating_add.ensures

@@ -9,12 +9,12 @@ use Rattle.acknowledgment.proofs.set_block.put_block.Goals as goal
 pub put_accepted-requires : goal.put_accepted-requires
 put_accepted-requires c = (c.requires.0, c.requires.1.0)
 
-pub returns-then-set-eq-ACCEPTED : goal.returns-then-set-eq-ACCEPTED
-returns-then-set-eq-ACCEPTED c =
+pub returns-then-is_accepted : goal.returns-then-is_accepted
+returns-then-is_accepted c =
     let a = c.args in
     let here = set_here a.reading.delimiters a.body.now a.set.start in
     λ earlier m.
-    rw (mark_block a.reading.delimiters (table_by a.directory.now a.rows.now a.reading.scope here) here earlier m c.if-set-eq-ACCEPTED.true)
+    rw (mark_block a.reading.delimiters (table_by a.directory.now a.rows.now a.reading.scope here) here earlier m (sym c.is_accepted.ensures ∙ c.if-is_accepted.true))
     c.put_accepted.ensures
 
 pub put_rejected-requires : goal.put_rejected-requires

@@ -16,4 +16,4 @@ returns c =
     (c.add_notes-told.ensures u)
     (λ e. c.codes_of-codes.ensures _ _ earlier (there_is c.args.directory.now c.args.rows.now c.args.set.table) e k)
     c.add_ak5.ensures
-    c.joined.ensures
+    c.saturating_add.ensures

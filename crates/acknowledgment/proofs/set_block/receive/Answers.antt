@@ -2,4 +2,4 @@
 use Rattle.acknowledgment.proofs.set_block.receive.Goals as goal
 
 pub returns : goal.returns
-returns c = rw (c.table_of-table.ensures, c.field.ensures, c.part-header.ensures)
+returns c = rw (c.table_of.ensures, c.field-kind.ensures, c.part-header.ensures)

@@ -4,19 +4,19 @@ use Rattle.acknowledgment.proofs.Surveys.{slot_inside, entered_so}
 use Rattle.acknowledgment.proofs.survey.enter.Goals as goal
 
 pub offset_bounds-links-slot : goal.offset_bounds-links-slot
-offset_bounds-links-slot c = omega (arith, (let entry = c.requires in slot_inside entry.0 entry.1.0 entry.1.1 c.search.ensures c.in-Free.is))
+offset_bounds-links-slot c = omega (arith, (let entry = c.requires in slot_inside entry.0 entry.1.0 entry.1.1 c.search.ensures c.in-Some.is))
 
 pub bounds-links-slot : goal.bounds-links-slot
 bounds-links-slot c =
     let entry = c.requires in
-    slot_inside entry.0 entry.1.0 entry.1.1 c.search.ensures c.in-Free.is
+    slot_inside entry.0 entry.1.0 entry.1.1 c.search.ensures c.in-Some.is
 
-pub returns-in-Repeated : goal.returns-in-Repeated
-returns-in-Repeated c =
+pub returns-in-None : goal.returns-in-None
+returns-in-None c =
     let entry = c.requires in
-    rw c.in-Repeated.is at (entered_so entry.0 entry.1.0 entry.1.1 c.search.ensures)
+    rw c.in-None.is at (entered_so entry.0 entry.1.0 entry.1.1 c.search.ensures)
 
-pub returns-in-Free : goal.returns-in-Free
-returns-in-Free c =
+pub returns-in-Some : goal.returns-in-Some
+returns-in-Some c =
     let entry = c.requires in
-    rw c.in-Free.is at (entered_so entry.0 entry.1.0 entry.1.1 c.search.ensures)
+    rw c.in-Some.is at (entered_so entry.0 entry.1.0 entry.1.1 c.search.ensures)

@@ -2,7 +2,6 @@
 use mathlib.Core.Path.{refl, ◌∙◌}
 use Prim.Native.Nat.{◌+◌, ◌<◌}
 use native.Mathlib.Omega.{arith}
-use borrow.Author.Tests.{ne_eqb}
 use lib.ListN as lists
 use Rattle.sets.specs.Places.{set_at}
 use Rattle.sets.proofs.Sets.{SetIs}
@@ -10,7 +9,7 @@ use Rattle.acknowledgment.proofs.Surveys.{seeing_start, seeing_set, seeing_heade
 use Rattle.acknowledgment.proofs.Turns.{sofar_start}
 use borrow.Author.Rules.{rules}
 use Rattle.acknowledgment.proofs.survey.survey_sets.Goals as goal
-use Rattle.acknowledgment.proofs.survey.survey_sets.Goals.{In-loop-at, then-set-eq-ACCEPTED, else-set-eq-ACCEPTED}
+use Rattle.acknowledgment.proofs.survey.survey_sets.Goals.{In-loop-at, then-is_accepted, else-is_accepted}
 
 set : (c : In-loop-at) → (let a = c.args in SetIs a.reading.delimiters a.body.now c.loop-at.at (set_at a.reading.delimiters a.body.now c.loop-at.at))
 set c = seeing_set c.loop-at.invariant.0 c.loop-at-test.true refl
@@ -68,9 +67,9 @@ loop-at-preserved c =
     let is = c.survey_set-set.ensures in (
       rw is.ends
           (seeing_turn sofar.0 inside enters is.marked
-          (elim c.if-set-eq-ACCEPTED.branch [ then-set-eq-ACCEPTED w ↦ rw w.if-set-eq-ACCEPTED.true w.accepted-is | else-set-eq-ACCEPTED w ↦ rw (ne_eqb _ 0 w.if-set-eq-ACCEPTED.false) w.accepted-is ]) (search rules)),
+          (elim c.if-is_accepted.branch [ then-is_accepted w ↦ rw (← c.is_accepted.ensures, w.if-is_accepted.true) w.accepted-is | else-is_accepted w ↦ rw (← c.is_accepted.ensures, w.if-is_accepted.false) w.accepted-is ]) (search rules)),
       seeing_measured sofar.0 inside (seeing_marked sofar.0 inside enters is.marked) (is.measured _ (seeing_used sofar.0 inside enters))
-          c.joined-length.ensures c.joined-segments.ensures sofar.1,
+          c.saturating_add-length.ensures c.saturating_add-segments.ensures sofar.1,
       search rules ∙ sofar.2,
       search rules ∙ sofar.3,
       search rules ∙ sofar.4,

@@ -6,4 +6,4 @@ use Rattle.acknowledgment.proofs.transaction.add_ending.Goals as goal
 pub returns : goal.returns
 unfolding ending
 returns c =
-    two _ _ _ c.add_ak9-n.ensures (rw c.joined.ensures at c.add_se.ensures)
+    two _ _ _ c.add_ak9-n.ensures (rw c.saturating_add.ensures at c.add_se.ensures)

@@ -9,8 +9,9 @@ use Rattle.rules.specs.declared.Delimiters.{Delimiters}
 use lib.ListN.{length, take, drop, length-drop}
 use Rattle.envelope.specs.Places.{next_group}
 use Rattle.envelope.specs.declared.GroupAt.{GroupAt}
-use Rattle.envelope.specs.declared.NextGroup.TheVariants.{Found}
+use Rattle.std.specs.Prelude.{Some}
 use Rattle.verdicts.specs.declared.Tally.{Tally}
+use Rattle.acknowledgment.specs.declared.set_block.Mark.{Mark}
 use Rattle.writing.proofs.Laws.{lend}
 use Rattle.acknowledgment.specs.Entries.{GroupEntries}
 use Rattle.acknowledgment.proofs.Recorded.{part_all, tally_is}
@@ -20,7 +21,7 @@ use Rattle.acknowledgment.proofs.transaction.add_transaction.Goals as goal
 use Rattle.acknowledgment.proofs.transaction.add_transaction.Goals.{After-group_ending-group, After-tally_of-sets, Start}
 
 -- the entries of the group, as they are lent on
-abbrev Entered : Delimiters → Bytes → List ℕ → List ℕ → ℕ → GroupAt → Tally → Type 0
+abbrev Entered : Delimiters → Bytes → List ℕ → List Mark → ℕ → GroupAt → Tally → Type 0
 Entered d i starts marks k g sets = GroupEntries d i g sets (take (length starts - k) (drop k starts)) (take (length marks - k) (drop k marks))
 
 entered : (c : Start)
@@ -48,10 +49,10 @@ few c e =
 
 -- the group is the one that stands there, and the tally that of its sets
 again : (c : After-group_ending-group) {g : GroupAt} {sets : Tally}
-    → next_group c.args.d c.args.i.now c.args.progress.at ≡ Found g
+    → next_group c.args.d c.args.i.now c.args.progress.at ≡ Some g
     → Entered c.args.d c.args.i.now c.args.starts.now c.args.marks.now c.args.progress.entry g sets
     → (c.group_ending-group.result ≡ g) × (c.tally_of-sets.result ≡ sets)
-again c f e = group_is e _ f c.tally_of-sets.ensures c.find-gs_end.ensures c.group_ending-group.ensures
+again c f e = group_is e _ f c.tally_of-sets.ensures c.find-gs_end.ensures (rw c.from.ensures at c.group_ending-group.ensures)
 
 pub offset_bounds-starts-entry : goal.offset_bounds-starts-entry
 offset_bounds-starts-entry c = omega (arith, (inside (goal.at.offset_bounds-starts-entry c).Start).0, c.requires.few)
@@ -79,12 +80,9 @@ pub bounds-starts-received : goal.bounds-starts-received
 bounds-starts-received c =
     rw (tallied (goal.at.bounds-starts-received c).After-tally_of-sets (entered (goal.at.bounds-starts-received c).Start)) (entered (goal.at.bounds-starts-received c).Start).stored
 
-pub overflow_cast-body_end : goal.overflow_cast-body_end
-overflow_cast-body_end c = omega (arith, c.shared_slice_known-4-1.given c.tally_of-sets.result.received)
-
 pub overflow_add-body_end-2 : goal.overflow_add-body_end-2
 overflow_add-body_end-2 c =
-    rw (c.find-gs_end.ensures, tallied (goal.at.overflow_add-body_end-2 c).After-tally_of-sets (entered (goal.at.overflow_add-body_end-2 c).Start)) (omega (arith, body_within (entered (goal.at.overflow_add-body_end-2 c).Start) _ c.requires.found))
+    rw (c.from.ensures, c.find-gs_end.ensures, tallied (goal.at.overflow_add-body_end-2 c).After-tally_of-sets (entered (goal.at.overflow_add-body_end-2 c).Start)) (omega (arith, body_within (entered (goal.at.overflow_add-body_end-2 c).Start) _ c.requires.found))
 
 pub put_sets-told-requires : goal.put_sets-told-requires
 put_sets-told-requires c =
@@ -114,9 +112,9 @@ returns c =
     record {
       text =
           group_written entered_so (rw known.0 at c.part-gs.ensures) (rw known.0 at c.part-body.ensures) c.scope_of-scope.ensures
-          c.requires.directory c.requires.tables (rw known.0 at c.part-ge.ensures) a.progress.number
-          (rw (known.0, known.1) at c.summary_of-summary.ensures) c.put_sets-told.ensures.number c.add_beginning-n.ensures
-          (lend c.clipped-rest.ensures c.put_sets-told.ensures.text c.joined-n.ensures (omega arith)) c.add_ending.ensures;
+          c.requires.directory c.requires.tables refl a.progress.number
+          (rw (c.trailer_of-ge.ensures, known.0, known.1) at c.summary_of-summary.ensures) c.put_sets-told.ensures.number c.add_beginning-n.ensures
+          (lend c.min-rest.ensures c.put_sets-told.ensures.text c.saturating_add-n.ensures (omega arith)) c.add_ending.ensures;
       at = rw known.0;
       entry = rw known.1;
       number = refl;

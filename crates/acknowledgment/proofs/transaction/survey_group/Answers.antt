@@ -1,5 +1,6 @@
 -- `acknowledgment::transaction::survey_group` meets its contract: the sets are looked at, and the entry after theirs ends the group.
 use Prim.Native.Nat.{◌<◌}
+use mathlib.Core.Path.{refl}
 use native.Mathlib.Omega.{arith}
 use Rattle.acknowledgment.proofs.Transactions.{sets_open, body_small, sets_few, entry_inside, surveyed_group}
 use borrow.Author.Rules.{rules}
@@ -38,4 +39,4 @@ pub returns : goal.returns
 returns c =
     surveyed_group c.requires c.part-gs.ensures c.part-body.ensures c.scope_of-scope.ensures c.survey_sets-survey.ensures
     (let same = c.starts-1.given in search rules) (let same = c.marks-1.given in search rules)
-    c.part-ge.ensures c.summary_of-summary.ensures c.transaction_length.ensures
+    refl (rw c.trailer_of-ge.ensures at c.summary_of-summary.ensures) c.transaction_length.ensures

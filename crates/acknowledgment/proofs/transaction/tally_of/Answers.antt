@@ -1,26 +1,25 @@
 -- `acknowledgment::transaction::tally_of` meets its contract: what is counted of the marks that are left decides.
-use mathlib.Core.Path.{refl, sym, ◌∙◌}
+use mathlib.Core.Path.{sym, ◌∙◌}
 use native.Mathlib.Omega.{arith}
-use borrow.Author.Tests.{eq-eqb, ne_eqb}
-use Rattle.acknowledgment.proofs.Recorded.{tally_mark, tally_stops, tally_none}
+use Rattle.acknowledgment.proofs.Recorded.{not_end, not_accepted, tally_mark, tally_stops, tally_none}
 use Rattle.acknowledgment.proofs.transaction.tally_of.Goals as goal
-use Rattle.acknowledgment.proofs.transaction.tally_of.Goals.{then-mark-eq-ACCEPTED, else-mark-eq-ACCEPTED}
+use Rattle.acknowledgment.proofs.transaction.tally_of.Goals.{in-Accepted, in_default}
 
-pub loop-received-init : goal.loop-received-init
-loop-received-init c = (refl, omega arith)
+pub loop-mark-preserved : goal.loop-mark-preserved
+loop-mark-preserved c =
+    let inv = c.loop-mark.invariant in
+    elim c.match-mark.branch [
+      | in-Accepted w ↦
+          (inv.0 ∙ tally_mark _ _ _ _ c.loop-mark-test.true (rw w.in-Accepted.is) (rw w.in-Accepted.is w.accepted-is), omega (arith, inv.1), omega (arith, inv.2))
+      | in_default w ↦ (
+        inv.0 ∙ tally_mark _ _ _ _ c.loop-mark-test.true (not_end _ w.in_default.not-GroupEnd) (rw (not_accepted _ w.in_default.not-Accepted) w.accepted-is),
+        omega (arith, inv.1),
+        omega (arith, inv.2),
+      )
+    ]
 
-pub loop-received-preserved : goal.loop-received-preserved
-loop-received-preserved c =
-    let inv = c.loop-received.invariant in (
-      inv.0
-          ∙ tally_mark _ _ _ c.loop-received-test.true (ne_eqb _ _ c.if-mark-eq-GROUP_END.false)
-          (elim c.if-mark-eq-ACCEPTED.branch [ then-mark-eq-ACCEPTED w ↦ rw w.if-mark-eq-ACCEPTED.true w.accepted-is | else-mark-eq-ACCEPTED w ↦ rw (ne_eqb _ 0 w.if-mark-eq-ACCEPTED.false) w.accepted-is ]),
-      (elim c.if-mark-eq-ACCEPTED.branch [ then-mark-eq-ACCEPTED w ↦ omega (arith, w.accepted-is, inv.1) | else-mark-eq-ACCEPTED w ↦ omega (arith, w.accepted-is, inv.1) ]),
-    )
+pub returns-after-loop-mark : goal.returns-after-loop-mark
+returns-after-loop-mark c = sym (c.loop-mark.invariant.0 ∙ tally_none _ _ _ _ c.loop-mark-test.false)
 
-pub returns-after-loop-received : goal.returns-after-loop-received
-returns-after-loop-received c = sym (c.loop-received.invariant.0 ∙ tally_none _ _ _ c.loop-received-test.false)
-
-pub returns-then-mark-eq-GROUP_END : goal.returns-then-mark-eq-GROUP_END
-returns-then-mark-eq-GROUP_END c =
-    sym (c.loop-received.invariant.0 ∙ tally_stops _ _ _ c.loop-received-test.true (eq-eqb _ _ c.if-mark-eq-GROUP_END.true))
+pub returns-in-GroupEnd : goal.returns-in-GroupEnd
+returns-in-GroupEnd c = sym (c.loop-mark.invariant.0 ∙ tally_stops _ _ _ _ c.loop-mark-test.true (rw c.in-GroupEnd.is))

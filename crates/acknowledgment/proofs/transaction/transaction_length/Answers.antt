@@ -5,4 +5,4 @@ use Rattle.acknowledgment.proofs.transaction.transaction_length.Goals as goal
 pub returns : goal.returns
 returns c =
     λ ss m.
-    length_made _ _ ss _ c.add_beginning-n.ensures.count m.text.count c.joined-n.ensures c.add_ending.ensures.count
+    length_made _ _ ss _ c.add_beginning-n.ensures.count m.text.count c.saturating_add-n.ensures c.add_ending.ensures.count

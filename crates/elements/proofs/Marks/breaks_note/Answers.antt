@@ -4,21 +4,16 @@ use Rattle.tables.proofs.Laws.{places_within, places_named}
 use Rattle.elements.specs.Marks.{marked, broken_by}
 use Rattle.elements.proofs.Marks.breaks_note.Goals as goal
 
-pub returns-then-not-is_note : goal.returns-then-not-is_note
-returns-then-not-is_note c = rw (sym c.is_note.ensures ∙ c.if-not-is_note.true)
-
 pub slice_bounds-numbers-end : goal.slice_bounds-numbers-end
-slice_bounds-numbers-end c =
-    let a = c.args in
-    places_within a.guide.now a.k c.places_at-places.ensures
+slice_bounds-numbers-end c = let a = c.args in places_within a.guide.now a.k c.places_at-count.ensures
 
 pub slice_bounds-breaks-end : goal.slice_bounds-breaks-end
-slice_bounds-breaks-end c = sym (length-take-le _ _ ((let a = c.args in places_within a.guide.now a.k c.places_at-places.ensures)))
+slice_bounds-breaks-end c = let a = c.args in sym (length-take-le _ _ (places_within a.guide.now a.k c.places_at-count.ensures))
 
 pub returns : goal.returns
 returns c =
     let a = c.args in
     rw (sym c.is_note.ensures ∙ c.if-not-is_note.false)
     (c.breaks.ensures
-    ∙ ap (λ (ps : List ℕ). broken_by (marked a.self) c.relation_at-relation.result ps) (places_named a.guide.now a.k c.places_at-places.ensures)
+    ∙ ap (λ (ps : List ℕ). broken_by (marked a.self) c.relation_at-relation.result ps) (places_named a.guide.now a.k c.places_at-count.ensures)
     ∙ rw c.relation_at-relation.ensures)

@@ -6,4 +6,4 @@ use Rattle.exchange.proofs.printing.put_refused.Goals as goal
 pub returns : goal.returns
 unfolding refused_text
 returns c =
-    whole (seq (seq c.add_bytes-n.ensures c.add_number-n.ensures) c.add_byte.ensures)
+    whole (seq (seq c.add-n.ensures (rw c.number.ensures at c.add-n-2.ensures)) c.add.ensures)

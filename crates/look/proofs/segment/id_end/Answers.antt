@@ -1,19 +1,14 @@
 -- `look::segment::id_end` meets its contract.
-use mathlib.Core.Path.{sym, ◌∙◌}
-use borrow.Author.Rules.{rules}
-use Rattle.text.proofs.Where.{next_here, next_later, next_none}
+use Rattle.std.proofs.Common.{◌∙◌, ap, eqb, length, ◌||◌, ℕ, unwrap_or, rules, tests}
+use Rattle.text.proofs.Library.{position_of, position-or}
 use Rattle.look.specs.Passing.{id_end}
 use Rattle.look.proofs.segment.id_end.Goals as goal
 
-pub loop-i-init : goal.loop-i-init
-unfolding id_end
-loop-i-init c = search rules
-
-pub returns-then-b-d : goal.returns-then-b-d
-returns-then-b-d c = sym (c.loop-i.invariant ∙ next_here _ _ 0 _ c.loop-i-test.true c.if-b-d.true)
-
-pub loop-i-preserved : goal.loop-i-preserved
-loop-i-preserved c = c.loop-i.invariant ∙ next_later _ _ 0 _ c.loop-i-test.true c.if-b-d.false
-
 pub returns : goal.returns
-returns c = sym (c.loop-i.invariant ∙ next_none _ _ 0 _ c.loop-i-test.false)
+unfolding id_end
+returns c =
+    let d = c.args.d in
+    let rest = c.args.rest.now in
+    let stops = λ (b : ℕ). eqb b d.element || eqb b d.terminator in
+    let found = position_of stops c.position.ensures.ran c.iter.ensures.rest (λ x b q k. search (rules, tests)) in
+    c.unwrap_or.ensures ∙ ap (λ o. unwrap_or o (length rest)) found ∙ position-or stops rest

@@ -1,16 +1,12 @@
 -- `look::segment::start_after` meets its contract.
-use borrow.Author.Tests.{lt-ltb, le-ltb, ne_eqb}
+use Rattle.std.proofs.Common.{rules, tests}
 use Rattle.look.specs.Passing.{start_after}
 use Rattle.look.proofs.segment.start_after.Goals as goal
-use Rattle.look.proofs.segment.start_after.Goals.{else-end-rest-via-then-end-rest+else-rest-end, else-end-rest-via-else-end-rest}
 
-pub returns-then-rest-end : goal.returns-then-rest-end
+pub returns-then-is_some_and : goal.returns-then-is_some_and
 unfolding start_after
-returns-then-rest-end c = rw (lt-ltb _ _ c.if-end-rest.true, c.if-rest-end.true-raw)
+returns-then-is_some_and c = search (rules, tests)
 
-pub returns : goal.returns
+pub returns-else-is_some_and : goal.returns-else-is_some_and
 unfolding start_after
-returns c = elim c.else-end-rest.branch [
-  | else-end-rest-via-then-end-rest+else-rest-end w ↦ rw (lt-ltb _ _ w.if-end-rest.true, ne_eqb _ _ w.if-rest-end.false)
-  | else-end-rest-via-else-end-rest w ↦ rw (le-ltb _ _ w.if-end-rest.false)
-]
+returns-else-is_some_and c = search (rules, tests)

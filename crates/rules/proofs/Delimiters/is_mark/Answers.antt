@@ -1,4 +1,5 @@
 -- `rules::Delimiters::is_mark` meets its contract.
+use Rattle.std.specs.Prelude.{Option, None, Some}
 use mathlib.Core.Path.{◌≡◌, refl}
 use mathlib.Core.Bool.{Bool, true, false, ◌||◌}
 use mathlib.Core.List.{◌∷◌}
@@ -6,8 +7,6 @@ use Prim.Native.Nat.{ℕ}
 use lib.Dec.{eqb}
 use Rattle.rules.specs.Base.{any, last}
 use Rattle.rules.specs.Cutting.{repetition_mark, marks}
-use Rattle.rules.specs.declared.Repetition.{Repetition}
-use Rattle.rules.specs.declared.Repetition.TheVariants.{Nothing, By}
 use Rattle.rules.proofs.Delimiters.is_mark.Goals as goal
 
 three : (x y z : Bool) → ((x || y) || z) || z ≡ x || (y || (z || false))
@@ -24,11 +23,11 @@ four false false false true = refl
 four false false false false = refl
 
 -- a byte is one of the delimiters e, c, t and those of r, where the last of them is asked twice if r has none
-one_of : (b e c t : ℕ) (r : Repetition)
+one_of : (b e c t : ℕ) (r : Option ℕ)
     → ((eqb b e || eqb b c) || eqb b t) || eqb b (last t (repetition_mark r)) ≡ any (eqb b) (e ∷ c ∷ t ∷ repetition_mark r)
 unfolding any last
-one_of b e c t Nothing = three (eqb b e) (eqb b c) (eqb b t)
-one_of b e c t (By s) = four (eqb b e) (eqb b c) (eqb b t) (eqb b s)
+one_of b e c t None = three (eqb b e) (eqb b c) (eqb b t)
+one_of b e c t (Some s) = four (eqb b e) (eqb b c) (eqb b t) (eqb b s)
 
 pub returns : goal.returns
 unfolding marks last

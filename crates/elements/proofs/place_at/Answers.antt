@@ -1,7 +1,0 @@
--- `elements::place_at` meets its contract.
-use Rattle.std.proofs.Common.{sym}
-use lib.ListN.{get_or-eq_default}
-use Rattle.elements.proofs.place_at.Goals as goal
-
-pub returns : goal.returns
-returns c = sym (get_or-eq_default c.args.places.now 0 c.if-i-places.false)

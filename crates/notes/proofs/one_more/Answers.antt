@@ -1,5 +1,0 @@
--- `notes::one_more` meets its contract.
-use Rattle.notes.proofs.one_more.Goals as goal
-
-pub returns : goal.returns
-returns c = rw c.joined.ensures

@@ -1,6 +1,0 @@
--- `writing::add_single` meets its contract: a separator and its content.
-use Rattle.writing.proofs.Segments.{field}
-use Rattle.writing.proofs.add_single.Goals as goal
-
-pub returns : goal.returns
-returns c = field _ c.add_byte-n.ensures c.add_byte.ensures
