@@ -1,7 +1,8 @@
-# For each public function of a Rattle source file the two lines that Determined.antt must have for it: where its clauses are read off, and the
+# For each public function of a Rattle source file, and each function that it gives a trait for a type, the two lines that Determined.antt must have for it: where its clauses are read off, and the
 # statement over its own Pre and Post, its result and every `&mut` that it is lent. `crate` and `module` (empty for lib.rt) say whose file it is.
-# A function over any type of a trait has the statement for each such type, and must not have a `requires`: its Pre says only that what the type
-# borrows lives as long as the call.
+# A function over any type of a trait has the statement for each such type, and asks only that what the type borrows lives as long as the call. The
+# lifetime of the type stands after those of the references that it is lent. Where a trait is given for arrays of any length, the theorem says only
+# that two outcomes coincide.
 {
     sub(/\/\/.*/, "")
     text = text " " $0
@@ -36,18 +37,42 @@ function snake(name, small) {
     return tolower(small)
 }
 
+# A type or a trait as the name of an `impl` has it: `&'a [u8]` is `RefSliceU8`, `From<Fault>` is `FromFault`.
+function named(word) {
+    gsub(/&('[a-z]+ *)?/, "Ref", word)
+    if (word ~ /\[[^]]*;/) sub(/\[/, "Array", word); else sub(/\[/, "Slice", word)
+    sub(/;.*/, "", word)
+    gsub(/[^A-Za-z0-9]/, "", word)
+    sub(/u8/, "U8", word)
+    return word
+}
+
+# What the functions of an `impl` are named after: the type, or the type and the trait.
+function owner_of(head, parts) {
+    sub(/^impl(<[^>]*>)? /, "", head)
+    sub(/ \{$/, "", head)
+    if (split(head, parts, " for ") < 2) return head
+    return named(parts[2]) named(parts[1])
+}
+
 END {
     gsub(/[ \t]+/, " ", text)
     owner = ""
     rest = text
-    while (match(rest, /impl [A-Za-z0-9_]+ \{|\} *$|(pub )(extern "C" )?fn [A-Za-z0-9_]+(<[^>]*>)?\(/)) {
+    while (match(rest, /impl(<[^>]*>)? [A-Za-z0-9_<>]+( for [^{]+)? \{|\} *$|(pub )?(extern "C" )?fn [A-Za-z0-9_]+(<[^>]*>)?\(/)) {
         found = substr(rest, RSTART, RLENGTH)
         before = substr(rest, 1, RSTART - 1)
         rest = substr(rest, RSTART + RLENGTH)
         inner += braces(before)
-        if (found ~ /^impl/) { split(found, word, " "); owner = word[2]; level = inner; inner++; continue }
-        if (owner != "" && inner <= level) owner = ""
-        if (found !~ /fn /) continue
+        if (found ~ /^impl/) {
+            owner = owner_of(found)
+            of_trait = found ~ / for /
+            of_arrays = found ~ /<.*const /
+            level = inner++
+            continue
+        }
+        if (owner != "" && inner <= level) { owner = ""; of_trait = of_arrays = 0 }
+        if (found !~ /fn / || (found !~ /^pub / && !of_trait)) continue
         name = found
         generic = found ~ /<[A-Z]/
         sub(/.*fn /, "", name); sub(/[<(].*/, "", name)
@@ -69,9 +94,14 @@ END {
         alias = crate "_" (module == "" ? "" : module "_") (owner == "" ? "" : snake(owner) "_") name
         gsub(/\./, "_", alias)
         printf "use Rattle.%s.proofs.%s.Reads as %s\n", crate, path, alias
-        if (!generic) printf "%s_once : Determined %s.Pre %s.Post (λ κs r s. %s)\n", alias, alias, alias, seen
-        else if (after ~ /^[^{]*requires/) printf "%s_once : a theorem for a generic function with a requires\n", alias
-        else printf "%s_once : (P : RattleType) (L : Laws P) (G : Ghosts P.Denot) (w : Dict) → Coincides (%s.Post P L G w) (λ κs r s. %s)\n", alias, alias, seen
+        if (of_arrays) printf "%s_once : (N : _) (F : _) → Coincides (%s.Post N F) (λ κs r s. %s)\n", alias, alias, seen
+        else if (!generic) printf "%s_once : Determined %s.Pre %s.Post (λ κs r s. %s)\n", alias, alias, alias, seen
+        else {
+            where = "κs"
+            for (k = gsub(/&/, "\\&", list); k > 0; k--) where = where ".1"
+            typed = " P L G w)"
+            printf "%s_once : (P : RattleType) (L : Laws P) (G : Ghosts P.Denot) (w : Dict) → DeterminedWhere (λ κs. Lives P %s.0) (%s.Pre%s (%s.Post%s (λ κs r s. %s)\n", alias, where, alias, typed, alias, typed, seen
+        }
     }
 }
 

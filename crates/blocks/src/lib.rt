@@ -1,13 +1,13 @@
 #![tactic(auto)]
 // The segments of the response's transaction set, ST to SE, all but AK3 and AK4: each a row of pieces after n bytes of a lent buffer.
-ghost use Rattle.std.specs.Prelude.{◌≡◌, [], ◌∷◌, ◌++◌, map, if◌then◌else◌};
+ghost use Rattle.std.specs.Prelude.{◌≡◌, [], ◌∷◌, ◌++◌, map, ◌≤◌, length, if◌then◌else◌};
 ghost use Rattle.rules.specs.Base.{ascii, null};
 ghost use Rattle.rules.specs.Numbers.{decimal, padded};
 ghost use Rattle.rules.specs.Cutting.{field, split};
 ghost use Rattle.rules.specs.Response.{fields_out, segment_out, st_out, se_out};
 ghost use Rattle.verdicts.specs.Collecting.{codes_of};
 ghost use Rattle.verdicts.specs.Verdicts.{summary_out};
-ghost use Rattle.writing.specs.Over.{Wrote, From};
+ghost use Rattle.writing.specs.Over.{over, Wrote, From};
 
 use rules::Delimiters;
 use verdicts::{Codes, Summary};
@@ -22,7 +22,7 @@ pub fn add_st(out: &mut [u8], n: usize, d: Delimiters, number: u64) -> usize
 {
     let n = add(out, n, &rules::ST);
     let n = add_field(out, n, d, b"997");
-    let n = add_field(out, n, d, Padded::<ST02_DIGITS>(number));
+    let n = add_field(out, n, d, Padded(number, ST02_DIGITS));
     add(out, n, d.terminator)
 }
 
@@ -81,6 +81,16 @@ pub fn add_ak5(out: &mut [u8], n: usize, d: Delimiters, codes: Codes) -> usize
     add(out, n, d.terminator)
 }
 
+// Bytes over the start of a buffer that has room for them. By index, as a piece of bytes: `copy_from_slice` calls for `memmove`.
+fn copy(out: &mut [u8], bytes: &[u8])
+    requires { length bytes.now ≤ length out.old }
+    ensures { out.new ≡ over bytes.now out.old }
+{
+    for i in 0..bytes.len() {
+        out[i] = bytes[i];
+    }
+}
+
 // AK2 and AK5 of an accepted set, from the start of what is lent; ST01 and ST02 are given as they stand in its header, each after its separator.
 pub fn put_acceptance(out: &mut [u8], d: Delimiters, fields: &[u8]) -> usize
     ensures { Wrote (ascii "AK2" ++ fields.now ++ d.terminator ∷ segment_out d (ascii "AK5" ∷ ascii "A" ∷ [])) result out.old out.new }
@@ -91,9 +101,9 @@ pub fn put_acceptance(out: &mut [u8], d: Delimiters, fields: &[u8]) -> usize
     let n = rules::AK2.len() + fields.len();
     // Where there is room for all, no piece is clipped.
     if n + ak5.len() <= out.len() {
-        out[..rules::AK2.len()].copy_from_slice(&rules::AK2);
-        out[rules::AK2.len()..n].copy_from_slice(fields);
-        out[n..n + ak5.len()].copy_from_slice(&ak5);
+        copy(out, &rules::AK2);
+        copy(&mut out[rules::AK2.len()..], fields);
+        copy(&mut out[n..], &ak5);
         return n + ak5.len();
     }
     let n = add(out, 0, &rules::AK2);
@@ -120,6 +130,6 @@ pub fn add_se(out: &mut [u8], n: usize, d: Delimiters, count: usize, number: u64
 {
     let n = add(out, n, &rules::SE);
     let n = add_field(out, n, d, Number(count as u64));
-    let n = add_field(out, n, d, Padded::<ST02_DIGITS>(number));
+    let n = add_field(out, n, d, Padded(number, ST02_DIGITS));
     add(out, n, d.terminator)
 }

@@ -1,1 +1,2 @@
 pub mod Months
+mod Read

@@ -11,7 +11,7 @@ use mathlib.Core.List.{[], ◌∷◌}
 use native.Mathlib.Nat.{zero-add, suc-add, lt_of_lt_of_le, pow-le-pow_right}
 use native.Mathlib.Numerals.{add-one}
 use native.Mathlib.Omega.{arith}
-use borrow.Author.Tests.{ltb-true, ltb-false}
+use borrow.Author.Tests.{ltb-true, ltb-false, lt-ltb, le-ltb}
 use lib.Dec.{eqb, ltb, lit<}
 use lib.ListN.{length, get_or, take, drop, length-drop, drop_of_length-le}
 use lib.Seq.{take_all, length-take-le, slice}
@@ -20,8 +20,9 @@ use Rattle.rules.specs.Numbers.{digits, value}
 use Rattle.rules.specs.Program.{Input, parted, behind_byte, is_call, refused_text, printed_reply, printed_call, printed_for}
 use Rattle.rules.specs.Answers.{Replies}
 use Rattle.rules.proofs.Logic.{and_left, and_right}
-use Rattle.text.specs.Text.{up_to_ten}
+use Rattle.text.specs.Text.{index_of, up_to_ten}
 use Rattle.text.proofs.Digits.{digits_length, value_of, value_below}
+use Rattle.text.proofs.Library.{position-is}
 use Rattle.std.proofs.Math.Bool.{and-false}
 use Rattle.exchange.specs.Calls.{line_on, line_for, line_in}
 use Rattle.exchange.specs.declared.first_line.FirstLine.{FirstLine}
@@ -113,6 +114,14 @@ is_lf b = eqb b 10
 
 abbrev pub line_end : Bytes → Option ℕ
 line_end s = position is_lf s
+
+-- by what `find` ensures
+module _ (s : Bytes) (end : ℕ) (found : end ≡ 0 + index_of 10 (drop 0 s)) where
+  pub ends_nowhere : length s ≤ end → line_end s ≡ None
+  ends_nowhere h = let e : index_of 10 s ≡ end = omega arith in rw (position-is is_lf s, e, le-ltb end (length s) h)
+
+  pub ends_there : end < length s → line_end s ≡ Some end
+  ends_there h = let e : index_of 10 s ≡ end = omega arith in rw (position-is is_lf s, e, lt-ltb end (length s) h)
 
 -- what stands before and after the byte at n
 abbrev cut_at : Bytes → ℕ → Input

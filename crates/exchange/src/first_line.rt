@@ -26,7 +26,11 @@ pub struct FirstLine {
 pub(crate) fn call_of(input: &[u8]) -> Option<FirstLine>
     ensures { result ≡ line_in input.now }
 {
-    let end = input.iter().position(|&b| b == b'\n')?;
+    // By `find`, and not by `position`, which goes byte by byte: an input without LF may be long.
+    let end = text::find(input, 0, b'\n');
+    if input.len() <= end {
+        return None;
+    }
     call_on(&input[..end])
 }
 

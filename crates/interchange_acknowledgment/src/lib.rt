@@ -67,7 +67,7 @@ fn add_ta1(out: &mut [u8], n: usize, d: Delimiters, i: &[u8], note: NoteCode) ->
     let n = add_field(out, n, d, isa::isa_field(i, 9));
     let n = add_field(out, n, d, isa::isa_field(i, 10));
     let n = add_field(out, n, d, note.verdict());
-    let n = add_field(out, n, d, Padded::<3>(note.number()));
+    let n = add_field(out, n, d, Padded(note.number(), 3));
     add(out, n, d.terminator)
 }
 

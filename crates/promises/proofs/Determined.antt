@@ -2,7 +2,7 @@
 -- (`Reads.Post`): of the arguments, the result and what is lent at the exit. Of each function any program is shut out that has another outcome
 -- than this one on any input, and a `requires`, by which a call would go without an outcome.
 use mathlib.Core.Path.{◌≡◌, refl, sym, ap, ◌∙◌}
-use mathlib.Core.List.{List}
+use mathlib.Core.List.{List, Mem}
 use lib.ListN.{get_or}
 use Prim.Native.Nat.{ℕ}
 use denote.RattleType.{RattleType}
@@ -60,6 +60,8 @@ use Rattle.sets.proofs.next_set.Reads as sets_next_set
 use Rattle.sets.proofs.check_sets.Reads as sets_check_sets
 use Rattle.register.proofs.search.Reads as register_search
 use Rattle.register.proofs.field_end.Reads as register_field_end
+use Rattle.refusals.proofs.EnvelopeFaultFromTrailerFault.from.Reads as refusals_envelope_fault_from_trailer_fault_from
+use Rattle.refusals.proofs.RefusalFromEnvelopeFault.from.Reads as refusals_refusal_from_envelope_fault_from
 use Rattle.refusals.proofs.check_head.Reads as refusals_check_head
 use Rattle.refusals.proofs.check_envelope.Reads as refusals_check_envelope
 use Rattle.refusals.proofs.check_group.Reads as refusals_check_group
@@ -103,11 +105,11 @@ use Rattle.elements.proofs.Marks.breaks_note.Reads as elements_marks_breaks_note
 use Rattle.findings.proofs.start.Reads as findings_start
 use Rattle.findings.proofs.next.Reads as findings_next
 use Rattle.findings.proofs.next_missing.Reads as findings_next_missing
-use Rattle.writing.proofs.U8Piece.put.Reads as writing_put_byte
-use Rattle.writing.proofs.RefSliceU8Piece.put.Reads as writing_put_bytes
-use Rattle.writing.proofs.RefArrayU8Piece.put.Reads as writing_put_array
-use Rattle.writing.proofs.NumberPiece.put.Reads as writing_put_number
-use Rattle.writing.proofs.PaddedPiece.put.Reads as writing_put_padded
+use Rattle.writing.proofs.U8Piece.put.Reads as writing_u8_piece_put
+use Rattle.writing.proofs.RefSliceU8Piece.put.Reads as writing_ref_slice_u8_piece_put
+use Rattle.writing.proofs.RefArrayU8Piece.put.Reads as writing_ref_array_u8_piece_put
+use Rattle.writing.proofs.NumberPiece.put.Reads as writing_number_piece_put
+use Rattle.writing.proofs.PaddedPiece.put.Reads as writing_padded_piece_put
 use Rattle.writing.proofs.add.Reads as writing_add
 use Rattle.writing.proofs.add_field.Reads as writing_add_field
 use Rattle.writing.proofs.add_optional.Reads as writing_add_optional
@@ -144,8 +146,18 @@ Determined {K = K} {A} {R} {S} pre post seen =
     ((κs : K) (a : A κs) → pre κs a)
     × ((κs : K) (a : A κs) (r₁ r₂ : R κs) (s₁ s₂ : S κs) → post κs a r₁ s₁ → post κs a r₂ s₂ → seen κs r₁ s₁ ≡ seen κs r₂ s₂)
 
--- The same of a function over any type of a trait. Its Pre says only that what the type borrows lives as long as the call; tests/determined sees
--- that it has no `requires`.
+-- The same of a function over any type of a trait: it asks what its type does, which is that what the type borrows lives as long as the call
+-- (`Lives`), and nothing more.
+abbrev pub DeterminedWhere {ℓ} : {K : Type ℓ} {A R S W : K → Type 0}
+    → (K → Type 0) → ((κs : K) → A κs → Type 0) → ((κs : K) → A κs → R κs → S κs → Type 0) → ((κs : K) → R κs → S κs → W κs) → Type ℓ
+DeterminedWhere {K = K} {A} {R} {S} lives pre post seen =
+    ((κs : K) (a : A κs) → lives κs → pre κs a)
+    × ((κs : K) (a : A κs) (r₁ r₂ : R κs) (s₁ s₂ : S κs) → post κs a r₁ s₁ → post κs a r₂ s₂ → seen κs r₁ s₁ ≡ seen κs r₂ s₂)
+
+abbrev pub Lives : RattleType → List ℕ → Type 0
+Lives P lifetime = (a : ℕ) → Mem a P.lives → Mem a lifetime
+
+-- Of a function of arrays only that two outcomes coincide: its Pre says that an array has a size.
 abbrev pub Coincides {ℓ} : {K : Type ℓ} {A R S W : K → Type 0}
     → ((κs : K) → A κs → R κs → S κs → Type 0) → ((κs : K) → R κs → S κs → W κs) → Type ℓ
 Coincides {K = K} {A} {R} {S} post seen =
@@ -307,6 +319,12 @@ register_search_once : Determined register_search.Pre register_search.Post (λ �
 register_search_once = ((λ κs a. tt), λ κs a r₁ r₂ s₁ s₂ p q. p ∙ sym q)
 
 -- refusals
+refusals_envelope_fault_from_trailer_fault_from_once : Determined refusals_envelope_fault_from_trailer_fault_from.Pre refusals_envelope_fault_from_trailer_fault_from.Post (λ κs r s. r)
+refusals_envelope_fault_from_trailer_fault_from_once = ((λ κs a. tt), λ κs a r₁ r₂ s₁ s₂ p q. p ∙ sym q)
+
+refusals_refusal_from_envelope_fault_from_once : Determined refusals_refusal_from_envelope_fault_from.Pre refusals_refusal_from_envelope_fault_from.Post (λ κs r s. r)
+refusals_refusal_from_envelope_fault_from_once = ((λ κs a. tt), λ κs a r₁ r₂ s₁ s₂ p q. p ∙ sym q)
+
 refusals_check_head_once : Determined refusals_check_head.Pre refusals_check_head.Post (λ κs r s. r)
 refusals_check_head_once = ((λ κs a. tt), λ κs a r₁ r₂ s₁ s₂ p q. p ∙ sym q)
 
@@ -434,26 +452,26 @@ findings_next_missing_once = ((λ κs a. tt), λ κs a r₁ r₂ s₁ s₂ p q. 
 
 -- writing
 -- each piece
-writing_put_byte_once : Determined writing_put_byte.Pre writing_put_byte.Post (λ κs r s. beside r s.1.0.now)
-writing_put_byte_once = ((λ κs a. tt), λ κs a r₁ r₂ s₁ s₂ p q. wrote_once p q)
+writing_u8_piece_put_once : Determined writing_u8_piece_put.Pre writing_u8_piece_put.Post (λ κs r s. beside r s.1.0.now)
+writing_u8_piece_put_once = ((λ κs a. tt), λ κs a r₁ r₂ s₁ s₂ p q. wrote_once p q)
 
-writing_put_bytes_once : Determined writing_put_bytes.Pre writing_put_bytes.Post (λ κs r s. beside r s.1.0.now)
-writing_put_bytes_once = ((λ κs a. tt), λ κs a r₁ r₂ s₁ s₂ p q. wrote_once p q)
+writing_ref_slice_u8_piece_put_once : Determined writing_ref_slice_u8_piece_put.Pre writing_ref_slice_u8_piece_put.Post (λ κs r s. beside r s.1.0.now)
+writing_ref_slice_u8_piece_put_once = ((λ κs a. tt), λ κs a r₁ r₂ s₁ s₂ p q. wrote_once p q)
 
-writing_put_array_once : (N : _) (F : _) → Coincides (writing_put_array.Post N F) (λ κs r s. beside r s.1.0.now)
-writing_put_array_once N F = λ κs a r₁ r₂ s₁ s₂ p q. wrote_once p q
+writing_ref_array_u8_piece_put_once : (N : _) (F : _) → Coincides (writing_ref_array_u8_piece_put.Post N F) (λ κs r s. beside r s.1.0.now)
+writing_ref_array_u8_piece_put_once N F = λ κs a r₁ r₂ s₁ s₂ p q. wrote_once p q
 
-writing_put_number_once : Determined writing_put_number.Pre writing_put_number.Post (λ κs r s. beside r s.1.0.now)
-writing_put_number_once = ((λ κs a. tt), λ κs a r₁ r₂ s₁ s₂ p q. wrote_once p q)
+writing_number_piece_put_once : Determined writing_number_piece_put.Pre writing_number_piece_put.Post (λ κs r s. beside r s.1.0.now)
+writing_number_piece_put_once = ((λ κs a. tt), λ κs a r₁ r₂ s₁ s₂ p q. wrote_once p q)
 
-writing_put_padded_once : (W : _) (F : _) → Coincides (writing_put_padded.Post W F) (λ κs r s. beside r s.1.0.now)
-writing_put_padded_once W F = λ κs a r₁ r₂ s₁ s₂ p q. wrote_once p q
+writing_padded_piece_put_once : Determined writing_padded_piece_put.Pre writing_padded_piece_put.Post (λ κs r s. beside r s.1.0.now)
+writing_padded_piece_put_once = ((λ κs a. tt), λ κs a r₁ r₂ s₁ s₂ p q. wrote_once p q)
 
-writing_add_once : (P : RattleType) (L : Laws P) (G : Ghosts P.Denot) (w : Dict) → Coincides (writing_add.Post P L G w) (λ κs r s. beside r s.0.now)
-writing_add_once P L G w = λ κs a r₁ r₂ s₁ s₂ p q. from_once p q
+writing_add_once : (P : RattleType) (L : Laws P) (G : Ghosts P.Denot) (w : Dict) → DeterminedWhere (λ κs. Lives P κs.1.0) (writing_add.Pre P L G w) (writing_add.Post P L G w) (λ κs r s. beside r s.0.now)
+writing_add_once P L G w = ((λ κs a lives. lives), λ κs a r₁ r₂ s₁ s₂ p q. from_once p q)
 
-writing_add_field_once : (P : RattleType) (L : Laws P) (G : Ghosts P.Denot) (w : Dict) → Coincides (writing_add_field.Post P L G w) (λ κs r s. beside r s.0.now)
-writing_add_field_once P L G w = λ κs a r₁ r₂ s₁ s₂ p q. from_once p q
+writing_add_field_once : (P : RattleType) (L : Laws P) (G : Ghosts P.Denot) (w : Dict) → DeterminedWhere (λ κs. Lives P κs.1.0) (writing_add_field.Pre P L G w) (writing_add_field.Post P L G w) (λ κs r s. beside r s.0.now)
+writing_add_field_once P L G w = ((λ κs a lives. lives), λ κs a r₁ r₂ s₁ s₂ p q. from_once p q)
 
 writing_add_optional_once : Determined writing_add_optional.Pre writing_add_optional.Post (λ κs r s. beside r s.0.now)
 writing_add_optional_once = ((λ κs a. tt), λ κs a r₁ r₂ s₁ s₂ p q. from_once p q)

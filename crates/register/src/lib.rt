@@ -91,7 +91,7 @@ pub fn search(
             }
         }
         if field_end(body, d, start) == start + control.len() {
-            return None;
+            break 'sets None;
         }
     }
 }

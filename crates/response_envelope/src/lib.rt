@@ -32,11 +32,11 @@ fn add_isa_parties(out: &mut [u8], n: usize, d: Delimiters, i: &[u8]) -> usize
 fn add_isa_stamp(out: &mut [u8], n: usize, d: Delimiters, call: Call) -> usize
     ensures { From n (fields_out d (padded 6 call.date ∷ padded 4 call.time ∷ ascii "U" ∷ ascii "00401" ∷ padded 9 call.control ∷ [])) result out.old out.new }
 {
-    let n = add_field(out, n, d, Padded::<6>(call.date as u64));
-    let n = add_field(out, n, d, Padded::<4>(call.time as u64));
+    let n = add_field(out, n, d, Padded(call.date as u64, 6));
+    let n = add_field(out, n, d, Padded(call.time as u64, 4));
     let n = add_field(out, n, d, b"U");
     let n = add_field(out, n, d, b"00401");
-    add_field(out, n, d, Padded::<9>(call.control as u64))
+    add_field(out, n, d, Padded(call.control as u64, 9))
 }
 
 // ISA of the response: the parties of the ISA received change places.
@@ -67,8 +67,8 @@ fn add_gs_parties(out: &mut [u8], n: usize, d: Delimiters, gs: &[u8]) -> usize
 fn add_gs_stamp(out: &mut [u8], n: usize, d: Delimiters, call: Call) -> usize
     ensures { From n (fields_out d (padded 8 call.date ∷ padded 4 call.time ∷ decimal call.control ∷ ascii "X" ∷ ascii "004010" ∷ [])) result out.old out.new }
 {
-    let n = add_field(out, n, d, Padded::<8>(call.date as u64));
-    let n = add_field(out, n, d, Padded::<4>(call.time as u64));
+    let n = add_field(out, n, d, Padded(call.date as u64, 8));
+    let n = add_field(out, n, d, Padded(call.time as u64, 4));
     let n = add_field(out, n, d, Number(call.control as u64));
     let n = add_field(out, n, d, b"X");
     add_field(out, n, d, b"004010")
@@ -100,6 +100,6 @@ pub fn add_iea(out: &mut [u8], n: usize, d: Delimiters, count: u64, control: u32
 {
     let n = add(out, n, &rules::IEA);
     let n = add_field(out, n, d, Number(count));
-    let n = add_field(out, n, d, Padded::<9>(control as u64));
+    let n = add_field(out, n, d, Padded(control as u64, 9));
     add(out, n, d.terminator)
 }

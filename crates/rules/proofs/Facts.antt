@@ -25,6 +25,30 @@ use Rattle.rules.specs.declared.Refusal.TheVariants.{BadCall, BadLength, NoIsa, 
 use Rattle.rules.specs.declared.Delimiters.{Delimiters}
 use Rattle.rules.proofs.Logic.{and_left, and_right, last_snoc, or_else, numbered, first_append, both_left, both_right, numbered_in, first_low}
 
+-- what holds of each refusal that a rule's number stands for holds of the refusal of any number
+refused_by : (Q : Refusal → Type 0) → Q BadCall → Q BadLength → Q NoIsa → Q BadDelimiters → Q BadIsa → Q NotTerminated → Q OutOfPlace → Q BadTrailer → Q BadHeader → Q Acknowledgment → Q Outside → Q NoSet → Q BadSetHeader → Q NotAsked
+    → (n : ℕ) → Q (refused n)
+unfolding refused
+refused_by Q a b c d e f g h i j k l m z zero = a
+refused_by Q a b c d e f g h i j k l m z (suc zero) = a
+refused_by Q a b c d e f g h i j k l m z (suc (suc zero)) = b
+refused_by Q a b c d e f g h i j k l m z (suc (suc (suc zero))) = c
+refused_by Q a b c d e f g h i j k l m z (suc (suc (suc (suc zero)))) = d
+refused_by Q a b c d e f g h i j k l m z (suc (suc (suc (suc (suc zero))))) = e
+refused_by Q a b c d e f g h i j k l m z (suc (suc (suc (suc (suc (suc zero)))))) = f
+refused_by Q a b c d e f g h i j k l m z (suc (suc (suc (suc (suc (suc (suc zero))))))) = g
+refused_by Q a b c d e f g h i j k l m z (suc (suc (suc (suc (suc (suc (suc (suc zero)))))))) = h
+refused_by Q a b c d e f g h i j k l m z (suc (suc (suc (suc (suc (suc (suc (suc (suc zero))))))))) = i
+refused_by Q a b c d e f g h i j k l m z (suc (suc (suc (suc (suc (suc (suc (suc (suc (suc zero)))))))))) = j
+refused_by Q a b c d e f g h i j k l m z (suc (suc (suc (suc (suc (suc (suc (suc (suc (suc (suc zero))))))))))) = k
+refused_by Q a b c d e f g h i j k l m z (suc (suc (suc (suc (suc (suc (suc (suc (suc (suc (suc (suc zero)))))))))))) = l
+refused_by Q a b c d e f g h i j k l m z (suc (suc (suc (suc (suc (suc (suc (suc (suc (suc (suc (suc (suc zero))))))))))))) = m
+refused_by Q a b c d e f g h i j k l m z (suc (suc (suc (suc (suc (suc (suc (suc (suc (suc (suc (suc (suc (suc n)))))))))))))) = let less : (suc (suc (suc (suc (suc (suc (suc (suc (suc (suc (suc (suc (suc (suc n)))))))))))))) - 1 ≡ (suc (suc (suc (suc (suc (suc (suc (suc (suc (suc (suc (suc (suc n))))))))))))) = omega arith in rw less z
+
+-- no refusal that a number stands for changes the buffer
+kept_refused : (n : ℕ) (r lent : Bytes) → buffer (Err (refused n)) r lent ≡ lent
+kept_refused n r lent = refused_by (λ e. buffer (Err e) r lent ≡ lent) refl refl refl refl refl refl refl refl refl refl refl refl refl refl n
+
 -- 1. What is allowed: a response where there is no refusal, and a refusal that leaves the buffer as it was. It has the outcome of the call, and two
 -- allowed outcomes coincide: the answer, and with it number and length, and every byte of the buffer.
 module _ (reply : Reply) (lent : Bytes) where
@@ -35,7 +59,7 @@ module _ (reply : Reply) (lent : Bytes) where
 
   pub refusal_allowed : {n : ℕ} → n ≡ reply.refusal → (n ≡ 0 → ⊥) → Allowed reply lent (Err (refused n)) lent
   unfolding Allowed answer
-  refusal_allowed {n} e h = (rw (← e, ne_eqb n 0 h), refl)
+  refusal_allowed {n} e h = (rw (← e, ne_eqb n 0 h), sym (kept_refused n reply.response lent))
 
 -- The refusal that the reply's number stands for has this number.
 abbrev pub Numbered : Reply → Type 0
@@ -43,22 +67,7 @@ Numbered reply = (reply.refusal ≡ 0 → ⊥) → number_of (refused reply.refu
 
 -- no refusal that a number stands for has a length
 needed_refused : (n : ℕ) → needed (refused n) ≡ 0
-unfolding refused
-needed_refused zero = refl
-needed_refused (suc zero) = refl
-needed_refused (suc (suc zero)) = refl
-needed_refused (suc (suc (suc zero))) = refl
-needed_refused (suc (suc (suc (suc zero)))) = refl
-needed_refused (suc (suc (suc (suc (suc zero))))) = refl
-needed_refused (suc (suc (suc (suc (suc (suc zero)))))) = refl
-needed_refused (suc (suc (suc (suc (suc (suc (suc zero))))))) = refl
-needed_refused (suc (suc (suc (suc (suc (suc (suc (suc zero)))))))) = refl
-needed_refused (suc (suc (suc (suc (suc (suc (suc (suc (suc zero))))))))) = refl
-needed_refused (suc (suc (suc (suc (suc (suc (suc (suc (suc (suc zero)))))))))) = refl
-needed_refused (suc (suc (suc (suc (suc (suc (suc (suc (suc (suc (suc zero))))))))))) = refl
-needed_refused (suc (suc (suc (suc (suc (suc (suc (suc (suc (suc (suc (suc zero)))))))))))) = refl
-needed_refused (suc (suc (suc (suc (suc (suc (suc (suc (suc (suc (suc (suc (suc zero))))))))))))) = refl
-needed_refused (suc (suc (suc (suc (suc (suc (suc (suc (suc (suc (suc (suc (suc (suc n)))))))))))))) = let less : (suc (suc (suc (suc (suc (suc (suc (suc (suc (suc (suc (suc (suc (suc n)))))))))))))) - 1 ≡ (suc (suc (suc (suc (suc (suc (suc (suc (suc (suc (suc (suc (suc n))))))))))))) = omega arith in rw less
+needed_refused n = refused_by (λ e. needed e ≡ 0) refl refl refl refl refl refl refl refl refl refl refl refl refl refl n
 
 pub allowed_outcome : (reply : Reply) (lent : Bytes) (a : Answer) {left : Bytes} → Numbered reply → Allowed reply lent a left → outcome a left ≡ called reply lent
 unfolding Allowed answer called

@@ -3,8 +3,9 @@ use mathlib.Core.Path.{◌≡◌, refl, sym, ap, ◌∙◌}
 use mathlib.Core.List.{[], ◌∷◌, ◌++◌}
 use Prim.Native.Nat.{ℕ, zero, suc, ◌+◌, ◌≤◌, ◌<◌, min}
 use native.Mathlib.Nat.{not-suc-le-zero, le_of_suc-le-suc, zero-add, suc-add}
+use native.Mathlib.Numerals.{add-one}
 use native.Mathlib.Omega.{arith}
-use lib.ListN.{length, take, drop, set}
+use lib.ListN.{length, take, drop, set, get_or}
 use Rattle.rules.specs.Base.{Bytes}
 use Rattle.writing.specs.Over.{over, from, sat}
 
@@ -44,6 +45,33 @@ over_full [] [] h = refl
 over_full [] (y ∷ o) h = absurd (not-suc-le-zero h)
 over_full (x ∷ t) [] h = refl
 over_full (x ∷ t) (y ∷ o) h = ap (λ (l : Bytes). x ∷ l) (over_full t o (le_of_suc-le-suc h))
+
+-- one byte more of a text is one store more
+over_one : (t o : Bytes) (i : ℕ) → i < length t → over (take (suc i) t) o ≡ set (over (take i t) o) i (get_or t i 0)
+unfolding over
+over_one [] o i h = absurd (not-suc-le-zero h)
+over_one (x ∷ t) [] zero h = refl
+over_one (x ∷ t) (y ∷ o) zero h = refl
+over_one (x ∷ t) [] (suc i) h = refl
+over_one (x ∷ t) (y ∷ o) (suc i) h = ap (λ (l : Bytes). x ∷ l) (over_one t o i (le_of_suc-le-suc h))
+
+-- a copying loop's turn
+pub over_turn : (t o out : Bytes) (i : ℕ) → out ≡ over (take i t) o → i < length t → set out i (get_or t i 0) ≡ over (take (i + 1) t) o
+over_turn t o out i e h = rw (e, add-one) (sym (over_one t o i h))
+
+-- what does not fit makes no difference
+over_clip : (n : ℕ) (t o : Bytes) → min (length t) (length o) ≤ n → over (take n t) o ≡ over t o
+unfolding over
+over_clip zero [] o h = refl
+over_clip zero (x ∷ t) [] h = refl
+over_clip zero (x ∷ t) (y ∷ o) h = absurd (omega (arith, h))
+over_clip (suc n) [] o h = refl
+over_clip (suc n) (x ∷ t) [] h = refl
+over_clip (suc n) (x ∷ t) (y ∷ o) h = ap (λ (l : Bytes). x ∷ l) (over_clip n t o (omega arith))
+
+-- a copying loop's end
+pub over_whole : (t o out : Bytes) (i : ℕ) → out ≡ over (take i t) o → min (length t) (length o) ≤ i → out ≡ over t o
+over_whole t o out i e h = e ∙ over_clip i t o h
 
 -- a text whose last byte stands already
 pub over_last : (t : Bytes) (b : ℕ) (o : Bytes) → over (t ++ b ∷ []) o ≡ over t (set o (length t) b)

@@ -40,19 +40,16 @@ impl Piece for u8 {
     }
 }
 
-// Bytes as they are.
+// Bytes as they are. By index: `copy_from_slice` calls for `memmove`, and a program in C that links the library need not have it.
 impl<'a> Piece for &'a [u8] {
     ghost text = { λ bytes. bytes.now };
 
     fn put(self, out: &mut [u8]) -> usize {
-        let n = self.len();
-        let room = out.len();
-        if n <= room {
-            out[..n].copy_from_slice(self);
-        } else {
-            out.copy_from_slice(&self[..room]);
+        let end = self.len().min(out.len());
+        for i in 0..end {
+            out[i] = self[i];
         }
-        n
+        self.len()
     }
 }
 
@@ -77,15 +74,15 @@ fn put_padded(out: &mut [u8], v: u64, w: usize) -> usize
     w
 }
 
-// A number by its last W digits, with zeros before it.
+// A number and a width: the number by so many of its last digits, with zeros before it.
 #[derive(Clone, Copy)]
-pub struct Padded<const W: usize>(pub u64);
+pub struct Padded(pub u64, pub usize);
 
-impl<const W: usize> Piece for Padded<W> {
-    ghost text = { λ number. padded W number.0 };
+impl Piece for Padded {
+    ghost text = { λ number. padded number.1 number.0 };
 
     fn put(self, out: &mut [u8]) -> usize {
-        put_padded(out, self.0, W)
+        put_padded(out, self.0, self.1)
     }
 }
 

@@ -1,24 +1,17 @@
 -- `dates::is_date` meets its contract.
-use mathlib.Core.Path.{ap, sym, ◌∙◌}
+use mathlib.Core.Path.{sym, ◌∙◌}
 use native.Mathlib.Omega.{arith}
-use lib.Dec.{lit≤}
-use Rattle.rules.specs.Numbers as numbers
-use Rattle.text.proofs.Digits.{value_of, value_below}
+use Rattle.dates.proofs.Read.{date_read, read_below, date_unread, date_other}
 use Rattle.dates.proofs.is_date.Goals as goal
 
-pub overflow_cast-value : goal.overflow_cast-value
-overflow_cast-value c =
-    let e = sym c.is_digits.ensures ∙ c.if-is_digits.true in
-    let v = c.value.ensures ∙ value_of _ _ _ e (lit≤ tt) in
-    let b = value_below _ _ _ e in
-    omega arith
+pub returns-then-s-ne8 : goal.returns-then-s-ne8
+returns-then-s-ne8 c = sym (date_other _ c.if-s-ne8.true)
 
-pub returns-then-is_digits : goal.returns-then-is_digits
-unfolding numbers.is_date
-returns-then-is_digits c =
-    let e = sym c.is_digits.ensures ∙ c.if-is_digits.true in
-    rw e (c.is_day.ensures ∙ ap numbers.is_day (c.value.ensures ∙ value_of _ _ _ e (lit≤ tt)))
+pub overflow_cast-n : goal.overflow_cast-n
+overflow_cast-n c = omega (arith, read_below _ c.if-s-ne8.false (sym c.in-Some.is ∙ c.count_in.ensures))
 
-pub returns-else-is_digits : goal.returns-else-is_digits
-unfolding numbers.is_date
-returns-else-is_digits c = rw (sym c.is_digits.ensures ∙ c.if-is_digits.false) c.if-is_digits.false
+pub returns-in-Some : goal.returns-in-Some
+returns-in-Some c = c.is_day.ensures ∙ sym (date_read _ c.if-s-ne8.false (sym c.in-Some.is ∙ c.count_in.ensures))
+
+pub returns-in-None : goal.returns-in-None
+returns-in-None c = sym (date_unread _ c.if-s-ne8.false (sym c.in-None.is ∙ c.count_in.ensures))

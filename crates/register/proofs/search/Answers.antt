@@ -79,7 +79,7 @@ sets-preserved c =
 pub returns-then-link-last : goal.returns-then-link-last
 returns-then-link-last c = sym (c.sets.invariant.1 ∙ walk_ends _ _ _ _ _ _ _ _ _ _ (rw c.number_at-link.ensures at c.if-link-last.true))
 
-pub returns-then-field_end-start : goal.returns-then-field_end-start
-returns-then-field_end-start c =
-    let at = goal.at.returns-then-field_end-start c in
+pub returns : goal.returns
+returns c =
+    let at = goal.at.returns c in
     sym (turn true at.After-bits_at (compared at.After-field_end ∙ eq-eqb _ _ c.if-field_end-start.true))

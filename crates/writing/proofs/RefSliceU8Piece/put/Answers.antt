@@ -1,13 +1,15 @@
--- `put` of bytes meets its contract: all of them where they fit, and else as many as fit.
-use mathlib.Core.Path.{sym}
+-- `put` of bytes meets its contract: so far, the first i bytes stand over the buffer's start.
+use mathlib.Core.Path.{refl, sym}
 use native.Mathlib.Omega.{arith}
-use Rattle.writing.proofs.Over.{over_fits, over_full}
+use lib.ListN.{length-set}
+use Rattle.writing.proofs.Over.{over_none, over_turn, over_whole}
 use Rattle.writing.proofs.RefSliceU8Piece.put.Goals as goal
 
-pub returns-then-n-room : goal.returns-then-n-room
-returns-then-n-room c =
-    record { count = omega arith; bytes = rw c.copy_from_slice.ensures.after (sym (over_fits c.args.self.now c.args.out.now c.if-n-room.true)) }
+pub loop-i-init : goal.loop-i-init
+loop-i-init c = (sym (over_none _), refl)
 
-pub returns-else-n-room : goal.returns-else-n-room
-returns-else-n-room c =
-    record { count = omega arith; bytes = rw c.copy_from_slice-else-n-room.ensures.after (sym (over_full c.args.self.now c.args.out.now (omega arith))) }
+pub loop-i-preserved : goal.loop-i-preserved
+loop-i-preserved c = (over_turn _ _ _ _ c.loop-i.invariant.0 (omega arith), simp length-set (omega arith))
+
+pub returns : goal.returns
+returns c = record { count = omega arith; bytes = over_whole _ _ _ c.loop-i.i c.loop-i.invariant.0 (omega arith) }

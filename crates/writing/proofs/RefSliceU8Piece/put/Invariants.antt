@@ -1,0 +1,8 @@
+-- `put` of bytes meets its contract: so far, the first i bytes stand over the buffer's start.
+use mathlib.Core.Path.{◌≡◌}
+use lib.ListN.{length, take}
+use Rattle.writing.specs.Over.{over}
+use Rattle.writing.proofs.RefSliceU8Piece.put.Given as goal
+
+abbrev pub invariant-loop-i : goal.invariant-loop-i
+invariant-loop-i l = (l.out ≡ over (take l.i l.self) l.initial.out) × (length l.out ≡ length l.initial.out)
