@@ -39,6 +39,11 @@ ends() {
     [ $? -eq "$status" ]
 }
 
+# needs ARCHIVE: the names that an archive takes from outside.
+needs() {
+    nm -u "$1" | awk '$1 == "U" { print $2 }' | LC_ALL=C sort -u
+}
+
 summary() {
     echo "$passed passed, $failed failed"
     [ "$failed" -eq 0 ]

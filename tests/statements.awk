@@ -59,6 +59,8 @@ END {
     gsub(/[ \t]+/, " ", text)
     owner = ""
     rest = text
+    given = gsub(/(^|[ };])impl[ <]/, "&", text)
+    public = gsub(/(^|[ };{])pub ([a-z]+ |extern "C" )*fn /, "&", text)
     while (match(rest, /impl(<[^>]*>)? [A-Za-z0-9_<>]+( for [^{]+)? \{|\} *$|(pub )?(extern "C" )?fn [A-Za-z0-9_]+(<[^>]*>)?\(/)) {
         found = substr(rest, RSTART, RLENGTH)
         before = substr(rest, 1, RSTART - 1)
@@ -69,10 +71,12 @@ END {
             of_trait = found ~ / for /
             of_arrays = found ~ /<.*const /
             level = inner++
+            given--
             continue
         }
         if (owner != "" && inner <= level) { owner = ""; of_trait = of_arrays = 0 }
         if (found !~ /fn / || (found !~ /^pub / && !of_trait)) continue
+        if (found ~ /^pub /) public--
         name = found
         generic = found ~ /<[A-Z]/
         sub(/.*fn /, "", name); sub(/[<(].*/, "", name)
@@ -103,6 +107,8 @@ END {
             printf "%s_once : (P : RattleType) (L : Laws P) (G : Ghosts P.Denot) (w : Dict) → DeterminedWhere (λ κs. Lives P %s.0) (%s.Pre%s (%s.Post%s (λ κs r s. %s)\n", alias, where, alias, typed, alias, typed, seen
         }
     }
+    if (given != 0) printf "%s\n%s: an impl whose head is not read\n", crate, crate
+    if (public != 0) printf "%s\n%s: a public function whose head is not read\n", crate, crate
 }
 
 function braces(s, i, c, d) {

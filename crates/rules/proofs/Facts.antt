@@ -76,7 +76,7 @@ allowed_outcome reply lent a {left} numbered p = go (eqb reply.refusal 0) refl (
     go : (b : Bool) → eqb reply.refusal 0 ≡ b → (c : Bool) → leb (length reply.response) (length lent) ≡ c → outcome a left ≡ called reply lent
     go true q true k = rw (p.1, p.0, q, k)
     go true q false k = rw (p.1, p.0, q, k)
-    go false q c k = rw (p.1, p.0, q, numbered (eqb-false reply.refusal 0 q), needed_refused reply.refusal)
+    go false q c k = rw (p.1, p.0, q, kept_refused reply.refusal reply.response lent, numbered (eqb-false reply.refusal 0 q), needed_refused reply.refusal)
 
 module _ (reply : Reply) (lent : Bytes) (a₁ a₂ : Answer) (l₁ l₂ : Bytes)
     (p : Allowed reply lent a₁ l₁) (q : Allowed reply lent a₂ l₂) where

@@ -38,14 +38,6 @@ over_fits [] o h = refl
 over_fits (x ∷ t) [] h = absurd (not-suc-le-zero h)
 over_fits (x ∷ t) (y ∷ o) h = ap (λ (l : Bytes). x ∷ l) (over_fits t o (le_of_suc-le-suc h))
 
--- of a text that does not fit stands as much as does
-pub over_full : (t o : Bytes) → length o ≤ length t → over t o ≡ take (length o) t
-unfolding over
-over_full [] [] h = refl
-over_full [] (y ∷ o) h = absurd (not-suc-le-zero h)
-over_full (x ∷ t) [] h = refl
-over_full (x ∷ t) (y ∷ o) h = ap (λ (l : Bytes). x ∷ l) (over_full t o (le_of_suc-le-suc h))
-
 -- one byte more of a text is one store more
 over_one : (t o : Bytes) (i : ℕ) → i < length t → over (take (suc i) t) o ≡ set (over (take i t) o) i (get_or t i 0)
 unfolding over

@@ -6,7 +6,7 @@ use Rattle.exchange.proofs.FirstLine.{ends_nowhere, ends_there, no_call, call_at
 use Rattle.exchange.proofs.first_line.call_of.Goals as goal
 
 pub returns-then-input-end : goal.returns-then-input-end
-returns-then-input-end c = sym (no_call _ (ends_nowhere _ _ c.find-end.ensures c.if-input-end.true))
+returns-then-input-end c = sym (no_call _ (ends_nowhere _ _ c.find-end.ensures (omega arith)))
 
 pub slice_bounds-call_on-end : goal.slice_bounds-call_on-end
 slice_bounds-call_on-end c = sym (length-take-le c.find-end.result c.args.input.now (omega arith))
