@@ -1,5 +1,6 @@
-# For each public function of a Rattle source file, and each function that it gives a trait for a type, the two lines that Determined.antt must have for it: where its clauses are read off, and the
-# statement over its own Pre and Post, its result and every `&mut` that it is lent. `crate` and `module` (empty for lib.rt) say whose file it is.
+# For each public function of a Rattle source file, and each function of a trait that it gives for a type, the two lines that Determined.antt must
+# have for it: where its clauses are read off, and the statement over its own Pre and Post, its result and every `&mut` that it is lent. `crate` and
+# `module` (empty for lib.rt) say whose file it is. A file with a head that is not read is due two lines that no one has.
 # A function over any type of a trait has the statement for each such type, and asks only that what the type borrows lives as long as the call. The
 # lifetime of the type stands after those of the references that it is lent. Where a trait is given for arrays of any length, the theorem says only
 # that two outcomes coincide.
